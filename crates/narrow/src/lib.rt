@@ -1,0 +1,101 @@
+// The model: MACs as terms, what can be derived from what somebody was given, what the house lets through, and what `can` says.
+// The definitions stand in specs/, the proofs in proofs/. Each function here only carries a theorem: its contract is the statement,
+// and without the proof the crate is refused.
+ghost use Rattle.narrow.specs.Promise.{MakesWithin, TicketGiven, YesGiven, TieGiven, TodayClosed, LetsMeans, ShownNarrower};
+ghost use Rattle.narrow.specs.Promise.{Sound, Complete, AttackersMeet, FewYeses, MoreCovered, LineLess, MoreGiven, MoreHolds};
+ghost use Rattle.narrow.specs.TermBytes.{SameOrBroken, ShownOrBroken, CanOrBroken, FormatsApart};
+
+// What is made by adding lines, making yeses under given keys and tying can be derived.
+pub fn makes_within()
+    ensures { λ _. ⌜ MakesWithin ⌝ }
+{}
+
+// Whoever can derive a ticket's MAC was given that ticket with its last lines left off, perhaps none.
+pub fn ticket_given()
+    ensures { λ _. ⌜ TicketGiven ⌝ }
+{}
+
+// Whoever can derive a yes's MAC has its key, or was given it with its last limits left off, perhaps none.
+pub fn yes_given()
+    ensures { λ _. ⌜ YesGiven ⌝ }
+{}
+
+// Whoever can derive a tie was given it, or can derive both its parts.
+pub fn tie_given()
+    ensures { λ _. ⌜ TieGiven ⌝ }
+{}
+
+// The policy of today takes with a ticket those with its last lines left off.
+pub fn today_closed()
+    ensures { λ _. ⌜ TodayClosed ⌝ }
+{}
+
+// What `lets` decides, in words of its own.
+pub fn lets_means()
+    ensures { λ _. ⌜ LetsMeans ⌝ }
+{}
+
+// A line more on what is shown lets no more through.
+pub fn shown_narrower()
+    ensures { λ _. ⌜ ShownNarrower ⌝ }
+{}
+
+// Where `can` says yes, what it shows can be made of what was given, and is let through.
+pub fn sound()
+    ensures { λ _. ⌜ Sound ⌝ }
+{}
+
+// Where something can be derived that is let through, `can` says yes; where it says no, it shows nothing.
+pub fn complete()
+    ensures { λ _. ⌜ Complete ⌝ }
+{}
+
+// Where the wide attacker is let through, the narrow one is.
+pub fn attackers_meet()
+    ensures { λ _. ⌜ AttackersMeet ⌝ }
+{}
+
+// What is shown has no more yeses than lines.
+pub fn few_yeses()
+    ensures { λ _. ⌜ FewYeses ⌝ }
+{}
+
+// Whoever has each thing that somebody else has, or has it with last lines left off, can no less.
+pub fn more_covered()
+    ensures { λ _. ⌜ MoreCovered ⌝ }
+{}
+
+// A line more on a given thing, wherever it stands, never turns no into yes.
+pub fn line_less()
+    ensures { λ _. ⌜ LineLess ⌝ }
+{}
+
+// More given, in any order, never turns yes into no.
+pub fn more_given()
+    ensures { λ _. ⌜ MoreGiven ⌝ }
+{}
+
+// `can` knows the wish only through what lines say.
+pub fn more_holds()
+    ensures { λ _. ⌜ MoreHolds ⌝ }
+{}
+
+// Two terms with the same bytes are the same, or HMAC is broken at parts of them.
+pub fn same_or_broken()
+    ensures { λ _. ⌜ SameOrBroken ⌝ }
+{}
+
+// What is shown with right bytes can be derived, or HMAC is broken there.
+pub fn shown_or_broken()
+    ensures { λ _. ⌜ ShownOrBroken ⌝ }
+{}
+
+// Complete, on bytes: `can` says yes, or HMAC is broken there.
+pub fn can_or_broken()
+    ensures { λ _. ⌜ CanOrBroken ⌝ }
+{}
+
+// No message of the formats is that of a tie, so that what is broken is HMAC itself.
+pub fn formats_apart()
+    ensures { λ _. ⌜ FormatsApart ⌝ }
+{}
