@@ -1,7 +1,7 @@
 -- What `can` says, by membership: which tickets are tried, and how an else is met. Assumes nothing.
 use mathlib.Core.Path.{_≡_, refl, sym, ap, _∙_, subst}
-use mathlib.Core.Bool.{Bool, true, false, _&&_}
-use mathlib.Core.List.{List, [], _∷_, _++_, List·Memᴰ, Memᴰ·cast, Memᴰ·append-left, Memᴰ·append-right, List·Memᴰ·append-cases, append-nil}
+use mathlib.Core.Bool.{Bool, true, false}
+use mathlib.Core.List.{List, [], List·Memᴰ, Memᴰ·cast, Memᴰ·append-left, Memᴰ·append-right, List·Memᴰ·append-cases, append-nil}
 use mathlib.Core.Logic.{_⊎_, inl, inr, ⊎-elim}
 use Prim.Native.Nat.{ℕ}
 use lib.Dec.{eqb}
@@ -12,12 +12,12 @@ use Rattle.std.specs.Orderings.{Decides}
 use Rattle.std.specs.shelf.Lists.{kept-by}
 use Rattle.std.proofs.shelf.Tests.{and-parts, and-from, both-ways}
 use Rattle.std.proofs.shelf.Ways.{decides-eqb}
-use Rattle.narrow.specs.Rows.{any, first, gather, sameRow, beginsWith}
+use Rattle.narrow.specs.Rows.{any, gather, sameRow, beginsWith}
 use Rattle.narrow.specs.Term.{Bytes}
 use Rattle.narrow.specs.Ticket.{Ticket, Yes, Extends, Shown, Thing, ATicket, AYes, ATied, AKey, bare}
 use Rattle.narrow.specs.Policy.{Policy, Closed, allMet, serves}
 use Rattle.narrow.specs.Can.{sameBytes, sameTicket, extends, theTicket, tiedTicket, canMakeTicket, tried, byKey, byFree, byTied, ifServes, firstBy, yesFor, canBy, shownBy, shows, can}
-use Rattle.narrow.proofs.Rows.{contradiction, any-in, any-from, or-other-cases, or-other-left, or-other-right, some-value, some-is, when-true-is, when-true-some, first-in, first-from, gather-in, gather-from, kept-in, kept-from, same-row, begins-with}
+use Rattle.narrow.proofs.Rows.{contradiction, any-in, any-from, or-other-cases, or-other-left, or-other-right, some-value, when-true-is, when-true-some, first-in, first-from, gather-in, gather-from, kept-in, kept-from, same-row, begins-with}
 use Rattle.narrow.proofs.Lets.{all-met-more, all-met-front}
 
 pub same-bytes : (a b : Bytes) → Decides (sameBytes a b) (a ≡ b)

@@ -1,24 +1,23 @@
 -- Sound and complete: `can` says yes exactly where something can be shown that is let through. Assumes nothing.
 use mathlib.Core.Path.{_≡_, refl, sym, ap, _∙_, subst}
-use mathlib.Core.Bool.{Bool, true, false}
+use mathlib.Core.Bool.{true}
 use mathlib.Core.List.{List, [], _∷_, _++_, map, List·Memᴰ, List·Memᴰ·head, List·Memᴰ·tail, List·Memᴰ·cases-cons, append-nil, append-assoc}
-use mathlib.Core.Logic.{_⊎_, inl, inr, ⊎-elim}
+use mathlib.Core.Logic.{⊎-elim}
 use Prim.Native.Nat.{ℕ, _≤_}
 use native.Mathlib.Omega.{arith}
 use lib.ListN.{length}
-use Rattle.std.specs.declared.option.Option.{Option}
-use Rattle.std.specs.declared.option.Option.the-variants.{Some, None}
+use Rattle.std.specs.declared.option.Option.the-variants.{Some}
 use Rattle.std.specs.Options.{isSome}
 use Rattle.std.proofs.shelf.Tests.{leb-true}
-use Rattle.narrow.specs.Rows.{any, all, gather}
+use Rattle.narrow.specs.Rows.{any, all}
 use Rattle.narrow.specs.Term.{Bytes, Term, Gets}
-use Rattle.narrow.specs.Ticket.{Ticket, Yes, Extends, ticketMac, yesMac, tieOf, withLine, bare, Thing, ATicket, AYes, ATied, AKey, termOf, termsOf, Makes, given, line, yesUnder, tied, Shown, shownTerms, CanShow, CanMake}
-use Rattle.narrow.specs.Policy.{Says, Limit, Else, Unreadable, Meaning, Policy, Closed, today, mostLines, allMet, serves, lets}
-use Rattle.narrow.specs.Can.{tried, yesFor, canBy, yesForLine, yesesFor, shownBy, shows, can}
+use Rattle.narrow.specs.Ticket.{Ticket, Yes, Extends, ticketMac, yesMac, tieOf, withLine, bare, Thing, ATicket, ATied, AKey, termOf, termsOf, Makes, given, line, yesUnder, tied, Shown, CanShow, CanMake}
+use Rattle.narrow.specs.Policy.{Says, Limit, Else, Unreadable, Meaning, Policy, today, mostLines, serves, lets}
+use Rattle.narrow.specs.Can.{tried, yesFor, canBy, yesForLine, yesesFor, shownBy, shows}
 use Rattle.narrow.specs.Promise.{Sound, Complete, AttackersMeet, FewYeses}
 use Rattle.narrow.proofs.Rows.{contradiction, any-in, any-from, some-value, gather-in, gather-from, gather-length, map-in, map-from}
 use Rattle.narrow.proofs.Given.{ticket-given, yes-given, tie-given}
-use Rattle.narrow.proofs.Lets.{all-met-more, Serving, serves-is, serves-from, serves-front, lets-parts, lets-from}
+use Rattle.narrow.proofs.Lets.{all-met-more, serves-is, serves-from, serves-front, lets-parts, lets-from}
 use Rattle.narrow.proofs.Can.{Way, viaKey, viaFree, viaTie, yes-for-in, yes-for-from, tried-extends, can-by-parts, shows-in, can-shows, cannot-shows, Reach, reach-can}
 
 -- a ticket with lines added is made of the one without

@@ -1,13 +1,12 @@
 -- Whoever can derive a ticket, a yes or a tie was given it, or what it is made of. Assumes nothing.
-use mathlib.Core.Path.{_≡_, refl, sym, ap, _∙_, subst}
-use mathlib.Core.List.{List, [], _∷_, _++_, List·Memᴰ, Memᴰ·cast, cons-eq-cons}
+use mathlib.Core.Path.{_≡_, refl, sym, ap, _∙_}
+use mathlib.Core.List.{List, _∷_, _++_, List·Memᴰ, Memᴰ·cast, cons-eq-cons}
 use mathlib.Core.Logic.{_⊎_, inl, inr}
-use Prim.Native.Nat.{ℕ}
-use Rattle.narrow.specs.Term.{Bytes, Origin, House, KeyOf, Term, Secret, Own, Mac, Tie, Gets, has, own, mac, tie, macs}
-use Rattle.narrow.specs.Ticket.{Ticket, Yes, Extends, Narrows, ticketMac, yesMac, yesMessage, tieOf, withLine, withLimit, bare, Thing, ATicket, AYes, ATied, AKey, termOf, termsOf, Makes, given, line, limit, yesUnder, tied}
+use Rattle.narrow.specs.Term.{Bytes, House, KeyOf, Term, Secret, Mac, Gets, has, mac, tie, macs}
+use Rattle.narrow.specs.Ticket.{Ticket, Yes, Extends, Narrows, ticketMac, yesMac, yesMessage, tieOf, withLine, withLimit, Thing, ATicket, AYes, ATied, AKey, termOf, termsOf, given, line, limit, yesUnder, tied}
 use Rattle.narrow.specs.Promise.{MakesWithin, TicketGiven, YesGiven, TieGiven}
 use Rattle.narrow.proofs.Rows.{contradiction, map-in}
-use Rattle.narrow.proofs.Terms.{given-or-made, root, messages, root-macs, messages-macs, macs-push, Front, front-given}
+use Rattle.narrow.proofs.Terms.{given-or-made, root, messages, root-macs, messages-macs, macs-push, front-given}
 
 pub ticket-root : (t : Ticket) → root (ticketMac t) ≡ Secret House
 ticket-root t = root-macs (Secret House) (t .number ∷ t .lines)

@@ -1,19 +1,18 @@
 -- What the house lets through, in words of its own. Assumes nothing.
-use mathlib.Core.Path.{_≡_, refl, sym, ap, _∙_, subst}
-use mathlib.Core.Bool.{Bool, true, false, _&&_, false≢true}
+use mathlib.Core.Path.{_≡_, refl, sym, ap, _∙_}
+use mathlib.Core.Bool.{Bool, true, _&&_}
 use mathlib.Core.List.{List, [], _∷_, _++_, List·Memᴰ, List·Memᴰ·head, List·Memᴰ·tail, Memᴰ·append-left, Memᴰ·append-right, List·Memᴰ·append-cases, List·Memᴰ·cases-cons}
 use mathlib.Core.Logic.{_⊎_, inl, inr, ⊎-elim}
 use Prim.Native.Nat.{ℕ}
 use native.Mathlib.Omega.{arith}
-use lib.Dec.{eqb, leb}
+use lib.Dec.{eqb}
 use lib.ListN.{length, length-append}
-use Rattle.std.specs.Orderings.{Decides}
 use Rattle.std.proofs.shelf.Tests.{and-parts, and-from, eqb-true, eq-eqb, leb-true, le-leb}
-use Rattle.narrow.specs.Rows.{any, all}
+use Rattle.narrow.specs.Rows.{any}
 use Rattle.narrow.specs.Term.{Bytes}
 use Rattle.narrow.specs.Ticket.{Ticket, Yes, Extends, Narrows, withLine, withLimit, Shown}
-use Rattle.narrow.specs.Policy.{Says, Limit, Else, Unreadable, Meaning, Policy, Closed, today, mostLines, met, allMet, noKey, holds, serves, lets}
-use Rattle.narrow.specs.Promise.{TodayClosed, Through, LetsMeans, Narrower, ShownNarrower}
+use Rattle.narrow.specs.Policy.{Says, Limit, Else, Unreadable, Meaning, Policy, Closed, mostLines, met, allMet, noKey, holds, serves, lets}
+use Rattle.narrow.specs.Promise.{TodayClosed, Through, LetsMeans, ShownNarrower}
 use Rattle.narrow.proofs.Rows.{contradiction, any-in, any-from, all-at, all-from}
 
 -- a line is met if it is met with fewer keys served

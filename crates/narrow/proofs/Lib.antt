@@ -6,3 +6,4 @@ pub mod Can
 pub mod Exact
 pub mod Monotone
 pub mod TermBytes
+pub mod Worked

@@ -1,6 +1,6 @@
 -- Monotone: a line more never helps, and more given never hurts. Assumes nothing.
 use mathlib.Core.Path.{_≡_, refl, sym, ap, _∙_, subst}
-use mathlib.Core.Bool.{Bool, true, false}
+use mathlib.Core.Bool.{Bool, true}
 use mathlib.Core.List.{List, [], _∷_, _++_, List·Memᴰ, List·Memᴰ·head, List·Memᴰ·tail, Memᴰ·cast, Memᴰ·append-left, Memᴰ·append-right, List·Memᴰ·append-cases, List·Memᴰ·cases-cons, append-nil, append-assoc}
 use mathlib.Core.Logic.{_⊎_, inl, inr, ⊎-elim}
 use Prim.Native.Nat.{ℕ}
@@ -8,11 +8,11 @@ use Rattle.std.specs.Options.{isSome}
 use Rattle.narrow.specs.Rows.{all}
 use Rattle.narrow.specs.Term.{Bytes}
 use Rattle.narrow.specs.Ticket.{Ticket, Yes, Extends, Narrows, bare, Thing, ATicket, AYes, ATied, AKey}
-use Rattle.narrow.specs.Policy.{Says, Limit, Else, Unreadable, Meaning, Policy, Closed, met, allMet, noKey, holds, serves}
+use Rattle.narrow.specs.Policy.{Says, Limit, Else, Unreadable, Meaning, Policy, met, allMet, noKey, holds}
 use Rattle.narrow.specs.Can.{tried, yesFor, canBy, can}
 use Rattle.narrow.specs.Promise.{Narrowed, ticket, free, tied, key, MoreCovered, LineLess, MoreGiven, rowsOf, limitsHold, MoreHolds}
 use Rattle.narrow.proofs.Rows.{contradiction, all-at, all-from, some-value}
-use Rattle.narrow.proofs.Lets.{all-met-more, Serving, serves-is, serves-from, serves-front, met-by-none}
+use Rattle.narrow.proofs.Lets.{all-met-more, serves-is, serves-from, serves-front}
 use Rattle.narrow.proofs.Can.{Way, viaKey, viaFree, viaTie, yes-for-in, yes-for-from, tried-extends, tried-thing, can-by-parts, can-by-from, can-tried, can-from, Reach, reach-can}
 
 pub extends-trans : (t s u : Ticket) → Extends t s → Extends s u → Extends t u

@@ -1,18 +1,16 @@
 -- Terms with the same bytes are the same, or HMAC is broken; and what follows for what is shown. Assumes nothing.
-use mathlib.Core.Path.{_≡_, refl, sym, ap, _∙_, subst}
-use mathlib.Core.Bool.{Bool, true, false}
-use mathlib.Core.List.{List, [], _∷_, _++_, map, List·Memᴰ, List·Memᴰ·head, List·Memᴰ·tail, List·Memᴰ·not-nil, List·Memᴰ·cases-cons}
+use mathlib.Core.Path.{_≡_, refl, sym, ap, subst}
+use mathlib.Core.Bool.{Bool, true}
+use mathlib.Core.List.{List, [], _∷_, List·Memᴰ, List·Memᴰ·head, List·Memᴰ·tail, List·Memᴰ·not-nil, List·Memᴰ·cases-cons}
 use mathlib.Core.Logic.{_⊎_, inl, inr, ⊎-elim, _≢_}
-use Prim.Native.Nat.{ℕ}
 use native.Mathlib.Omega.{arith}
 use lib.ListN.{length}
 use Rattle.std.proofs.shelf.Tests.{cases-eq, cases-bool}
 use Rattle.narrow.specs.Term.{Bytes, macLength, Origin, House, KeyOf, Term, Secret, Own, Mac, Tie, Gets}
-use Rattle.narrow.specs.Ticket.{Thing, termsOf, Shown, shownTerms, CanShow}
-use Rattle.narrow.specs.Policy.{Policy, Closed, lets}
-use Rattle.narrow.specs.Can.{sameBytes, can}
+use Rattle.narrow.specs.Ticket.{termsOf, shownTerms, CanShow}
+use Rattle.narrow.specs.Can.{sameBytes}
 use Rattle.narrow.specs.TermBytes
-use Rattle.narrow.specs.TermBytes.{Interpretation, tieMessage, bytesOf, Source, Drawn, Chosen, MacOf, TieOf, sourceOf, Part, itself, under, left, right, Clash, Broken, SameOrBroken, Derives, EachDerives, BrokenIn, ShownOrBroken, CanOrBroken, Sized, NoTie, Message, ofNumber, ofYes, ofLine, Formatted, NoHmac, Hmac, inputOf, MessagesApart, FormatsApart}
+use Rattle.narrow.specs.TermBytes.{Interpretation, tieMessage, bytesOf, sourceOf, Part, itself, under, left, right, Clash, Broken, SameOrBroken, BrokenIn, ShownOrBroken, CanOrBroken, Sized, NoTie, Message, ofNumber, ofYes, ofLine, Formatted, inputOf, FormatsApart}
 use Rattle.narrow.proofs.Rows.{contradiction, map-from}
 use Rattle.narrow.proofs.Can.{same-bytes}
 use Rattle.narrow.proofs.Exact.{complete}

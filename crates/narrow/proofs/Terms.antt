@@ -1,8 +1,7 @@
 -- What can be derived was given, or made of what can be derived. Assumes nothing.
-use mathlib.Core.Path.{_≡_, refl, sym, ap, _∙_, subst}
-use mathlib.Core.List.{List, [], _∷_, _++_, List·Memᴰ, append-assoc, append-nil, cons-eq-cons}
+use mathlib.Core.Path.{_≡_, refl, sym, ap, _∙_}
+use mathlib.Core.List.{List, [], _∷_, _++_, List·Memᴰ, append-assoc, append-nil}
 use mathlib.Core.Logic.{_⊎_, inl, inr}
-use Prim.Native.Nat.{ℕ}
 use lib.ListN.{length}
 use Rattle.narrow.specs.Term.{Bytes, macLength, Origin, Term, Secret, Own, Mac, Tie, Gets, has, own, mac, tie, macs}
 use Rattle.narrow.proofs.Rows.{contradiction}

@@ -1,6 +1,5 @@
 -- What somebody can, by what they were given, without terms: whether a wish can be let through, and what to show for it.
 -- Assumes nothing.
-use mathlib.Core.Path.{_≡_}
 use mathlib.Core.Bool.{Bool, _&&_}
 use mathlib.Core.List.{List, _++_}
 use Prim.Native.Nat.{ℕ}

@@ -5,3 +5,4 @@ pub mod Policy
 pub mod Can
 pub mod Promise
 pub mod TermBytes
+pub mod Worked

@@ -1,9 +1,8 @@
 -- Terms in bytes, and what it is that HMAC is broken. Assumes nothing.
 use mathlib.Core.Path.{_≡_}
 use mathlib.Core.Bool.{Bool, true}
-use mathlib.Core.List.{List, [], _∷_, map, List·Memᴰ}
+use mathlib.Core.List.{List, _∷_, map, List·Memᴰ}
 use mathlib.Core.Logic.{_⊎_, _≢_}
-use Prim.Native.Nat.{ℕ}
 use lib.ListN.{length}
 use Rattle.narrow.specs.Term.{Bytes, macLength, Origin, Term, Secret, Own, Mac, Tie, Gets}
 use Rattle.narrow.specs.Ticket.{yesMessage, Thing, termsOf, Shown, shownTerms, CanShow}

@@ -2,7 +2,7 @@
 use mathlib.Core.Path.{_≡_}
 use mathlib.Core.List.{List, [], _∷_, _++_, map, List·Memᴰ}
 use Prim.Native.Nat.{ℕ}
-use Rattle.narrow.specs.Term.{Bytes, Term, Secret, Mac, Tie, House, KeyOf, Gets, macs}
+use Rattle.narrow.specs.Term.{Bytes, Term, Secret, Tie, House, KeyOf, Gets, macs}
 
 -- a ticket (a macaroon): its number as bytes, and its lines (caveats), first to last; a line is its bytes
 pub record Ticket : Type 0 where

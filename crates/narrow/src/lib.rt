@@ -4,6 +4,7 @@
 ghost use Rattle.narrow.specs.Promise.{MakesWithin, TicketGiven, YesGiven, TieGiven, TodayClosed, LetsMeans, ShownNarrower};
 ghost use Rattle.narrow.specs.Promise.{Sound, Complete, AttackersMeet, FewYeses, MoreCovered, LineLess, MoreGiven, MoreHolds};
 ghost use Rattle.narrow.specs.TermBytes.{SameOrBroken, ShownOrBroken, CanOrBroken, FormatsApart};
+ghost use Rattle.narrow.specs.Worked.{WorkedCases};
 
 // What is made by adding lines, making yeses under given keys and tying can be derived.
 pub fn makes_within()
@@ -98,4 +99,9 @@ pub fn can_or_broken()
 // No message of the formats is that of a tie, so that what is broken is HMAC itself.
 pub fn formats_apart()
     ensures { λ _. ⌜ FormatsApart ⌝ }
+{}
+
+// Worked cases: what is shown for some rows of given things.
+pub fn worked_cases()
+    ensures { λ _. ⌜ WorkedCases ⌝ }
 {}
