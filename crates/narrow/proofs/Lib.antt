@@ -1,3 +1,4 @@
+pub mod RowKinds
 pub mod Rows
 pub mod Terms
 pub mod Given
@@ -7,3 +8,4 @@ pub mod Exact
 pub mod Monotone
 pub mod TermBytes
 pub mod Worked
+pub mod Numbered

@@ -1,7 +1,7 @@
 -- Tests and searches over rows, by membership; each way one lemma. Assumes nothing.
 use mathlib.Core.Path.{_≡_, refl, sym, ap, _∙_}
 use mathlib.Core.Bool.{Bool, true, false, cond}
-use mathlib.Core.List.{List, [], _∷_, _++_, map, List·Memᴰ, List·Memᴰ·head, List·Memᴰ·tail, List·Memᴰ·not-nil, Memᴰ·append-left, Memᴰ·append-right, List·Memᴰ·append-cases, List·Memᴰ·cases-cons, cons-eq-cons}
+use mathlib.Core.List.{List, [], _∷_, _++_, map, List·Memᴰ, List·Memᴰ·head, List·Memᴰ·tail, List·Memᴰ·not-nil, List·Memᴰ·cases-cons, cons-eq-cons}
 use mathlib.Core.Logic.{_⊎_, inl, inr, ⊎-elim}
 use Prim.Native.Nat.{ℕ, _≤_}
 use native.Mathlib.Omega.{arith}
@@ -12,36 +12,39 @@ use Rattle.std.specs.Options.{isSome, orOther, whenTrue}
 use Rattle.std.specs.Orderings.{Decides}
 use Rattle.std.specs.Vec.{listOf}
 use Rattle.std.specs.shelf.Lists.{kept-by}
-use Rattle.std.proofs.shelf.Tests.{or-cases, or-left, or-right, and-parts, and-from}
+use Rattle.std.proofs.shelf.Tests.{and-parts, and-from}
+use Rattle.narrow.proofs.RowKinds
+use Rattle.narrow.proofs.RowKinds.{IsAny, IsAll, IsJoin}
 use Rattle.narrow.specs.Rows.{any, all, first, gather, sameRow, beginsWith}
 
 -- anything follows where two constructors are equal, which `cc` sees
 pub contradiction : {X : Type 0} → _≡_ {A = ℕ} 0 1 → X
 contradiction e = absurd (omega arith)
 
-pub any-in : {A : Type 0} (f : A → Bool) (xs : List A) → any f xs ≡ true → (x : A) × List·Memᴰ x xs × (f x ≡ true)
+-- the functions over rows, by their kind
+any-is : {A : Type 0} (f : A → Bool) → IsAny f (any f)
 unfolding any
-any-in f [] e = contradiction (cc)
-any-in {A} f (x ∷ xs) e = step (any-in f xs) (or-cases (f x) (any f xs) e)
-  where
-    step : (any f xs ≡ true → (y : A) × List·Memᴰ y xs × (f y ≡ true)) → (f x ≡ true) ⊎ (any f xs ≡ true) → (y : A) × List·Memᴰ y (x ∷ xs) × (f y ≡ true)
-    step below (inl h) = (x, List·Memᴰ·head refl, h)
-    step below (inr h) = let r = below h in (r .0, List·Memᴰ·tail (r .1), r .2)
+any-is f = record { none = refl; more = λ x xs. refl }
+
+all-is : {A : Type 0} (f : A → Bool) → IsAll f (all f)
+unfolding all
+all-is f = record { none = refl; more = λ x xs. refl }
+
+gather-is : {A B : Type 0} (f : A → Option B) → IsJoin (λ x. listOf (f x)) (gather f)
+unfolding gather
+gather-is f = record { none = refl; more = λ x xs. refl }
+
+pub any-in : {A : Type 0} (f : A → Bool) (xs : List A) → any f xs ≡ true → (x : A) × List·Memᴰ x xs × (f x ≡ true)
+any-in f = RowKinds.any-in (any-is f)
 
 pub any-from : {A : Type 0} (f : A → Bool) {x : A} {xs : List A} → List·Memᴰ x xs → f x ≡ true → any f xs ≡ true
-unfolding any
-any-from f (List·Memᴰ·head {x = y} {xs = xs} e) h = or-left (f y) (any f xs) (ap f (sym e) ∙ h)
-any-from f (List·Memᴰ·tail {x = y} {xs = xs} m) h = or-right (f y) (any f xs) (any-from f m h)
+any-from f = RowKinds.in-any (any-is f)
 
 pub all-at : {A : Type 0} (f : A → Bool) {x : A} {xs : List A} → List·Memᴰ x xs → all f xs ≡ true → f x ≡ true
-unfolding all
-all-at f (List·Memᴰ·head {x = y} {xs = xs} e) h = ap f e ∙ and-parts (f y) (all f xs) h .0
-all-at f (List·Memᴰ·tail {x = y} {xs = xs} m) h = all-at f m (and-parts (f y) (all f xs) h .1)
+all-at f = RowKinds.all-in (all-is f)
 
 pub all-from : {A : Type 0} (f : A → Bool) (xs : List A) → ((x : A) → List·Memᴰ x xs → f x ≡ true) → all f xs ≡ true
-unfolding all
-all-from f [] h = refl
-all-from f (x ∷ xs) h = and-from (f x) (all f xs) (h x (List·Memᴰ·head refl)) (all-from f xs (λ y m. h y (List·Memᴰ·tail m)))
+all-from f = RowKinds.in-all (all-is f)
 
 -- what the first of two options that is there gives
 pub or-other-cases : {A : Type 0} (a b : Option A) (y : A) → orOther a b ≡ Some y → (a ≡ Some y) ⊎ (b ≡ Some y)
@@ -93,18 +96,10 @@ list-of-from : {A : Type 0} (o : Option A) (y : A) → o ≡ Some y → List·Me
 list-of-from o y e = rw e (List·Memᴰ·head refl)
 
 pub gather-in : {A B : Type 0} (f : A → Option B) (xs : List A) (y : B) → List·Memᴰ y (gather f xs) → (x : A) × List·Memᴰ x xs × (f x ≡ Some y)
-unfolding gather
-gather-in f [] y m = absurd (List·Memᴰ·not-nil m)
-gather-in {A} f (x ∷ xs) y m = step (gather-in f xs y) (List·Memᴰ·append-cases (listOf (f x)) m)
-  where
-    step : (List·Memᴰ y (gather f xs) → (z : A) × List·Memᴰ z xs × (f z ≡ Some y)) → List·Memᴰ y (listOf (f x)) ⊎ List·Memᴰ y (gather f xs) → (z : A) × List·Memᴰ z (x ∷ xs) × (f z ≡ Some y)
-    step below (inl h) = (x, List·Memᴰ·head refl, list-of-in (f x) y h)
-    step below (inr h) = let r = below h in (r .0, List·Memᴰ·tail (r .1), r .2)
+gather-in f xs y m = let (x, i, j) = RowKinds.join-in (gather-is f) xs m in (x, i, list-of-in (f x) y j)
 
 pub gather-from : {A B : Type 0} (f : A → Option B) {x : A} {xs : List A} (y : B) → List·Memᴰ x xs → f x ≡ Some y → List·Memᴰ y (gather f xs)
-unfolding gather
-gather-from f y (List·Memᴰ·head {x = z} {xs = xs} e) h = Memᴰ·append-left (gather f xs) (list-of-from (f z) y (ap f (sym e) ∙ h))
-gather-from f y (List·Memᴰ·tail {x = z} {xs = xs} m) h = Memᴰ·append-right (listOf (f z)) (gather-from f y m h)
+gather-from f {x} y m e = RowKinds.in-join (gather-is f) m (list-of-from (f x) y e)
 
 list-of-length : {A : Type 0} (o : Option A) → length (listOf o) ≤ 1
 list-of-length None = omega arith

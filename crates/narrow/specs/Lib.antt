@@ -6,3 +6,4 @@ pub mod Can
 pub mod Promise
 pub mod TermBytes
 pub mod Worked
+pub mod Numbered

@@ -1,10 +1,18 @@
 // The model: MACs as terms, what can be derived from what somebody was given, what the house lets through, and what `can` says.
 // The definitions stand in specs/, the proofs in proofs/. Each function here only carries a theorem: its contract is the statement,
 // and without the proof the crate is refused.
+mod by_number;
+
 ghost use Rattle.narrow.specs.Promise.{MakesWithin, TicketGiven, YesGiven, TieGiven, TodayClosed, LetsMeans, ShownNarrower};
 ghost use Rattle.narrow.specs.Promise.{Sound, Complete, AttackersMeet, FewYeses, MoreCovered, LineLess, MoreGiven, MoreHolds};
 ghost use Rattle.narrow.specs.TermBytes.{SameOrBroken, ShownOrBroken, CanOrBroken, FormatsApart};
 ghost use Rattle.narrow.specs.Worked.{WorkedCases};
+pub use by_number::numbered_line_less;
+pub use by_number::numbered_main;
+pub use by_number::numbered_more_given;
+pub use by_number::numbered_narrower;
+pub use by_number::numbered_ticket_given;
+pub use by_number::numbered_yes_given;
 
 // What is made by adding lines, making yeses under given keys and tying can be derived.
 pub fn makes_within()
