@@ -1,11 +1,13 @@
 // Plays a script from standard input. As yet it reads the script, and tells the first line that can't be read.
 mod arguments;
+mod house;
 mod reasons;
 
 ghost use mathlib.Core.Path.{_≡_};
 ghost use Rattle.office.specs.Ends.{end-of};
 use arguments::Asked;
 use arguments::read_arguments;
+use house::open;
 use reasons::Reason;
 use reasons::ReasonDisplay;
 use reasons::ReasonFromAllocError;
@@ -55,6 +57,7 @@ fn play(rt: &LibcRuntime) -> Result<(), Reason> {
         Err(error) => return Err(of_input(error.kind())),
     };
     let script = read_script(heap, text.as_str())?;
+    let _house = open(script.statements.as_slice());
     end(&script)
 }
 

@@ -1,0 +1,3 @@
+pub mod Comparing
+pub mod Keying
+pub mod Laws

@@ -1,0 +1,4 @@
+pub mod Blocks
+pub mod Constants
+pub mod Sha256
+pub mod Stages
