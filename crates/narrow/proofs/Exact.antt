@@ -12,7 +12,7 @@ use Rattle.std.proofs.shelf.Tests.{leb-true}
 use Rattle.narrow.specs.Rows.{any, all}
 use Rattle.narrow.specs.Term.{Bytes, Term, Gets}
 use Rattle.narrow.specs.Ticket.{Ticket, Yes, Extends, ticketMac, yesMac, tieOf, withLine, bare, Thing, ATicket, ATied, AKey, termOf, termsOf, Makes, given, line, yesUnder, tied, Shown, CanShow, CanMake}
-use Rattle.narrow.specs.Policy.{Says, Limit, Else, Unreadable, Meaning, Policy, today, mostLines, serves, lets}
+use Rattle.narrow.specs.Policy.{Says, Limit, Else, Unreadable, Meaning, Policy, today, mostLines, serves, lets, mostYeses}
 use Rattle.narrow.specs.Can.{tried, yesFor, canBy, yesForLine, yesesFor, shownBy, shows}
 use Rattle.narrow.specs.Promise.{Sound, Complete, AttackersMeet, FewYeses}
 use Rattle.narrow.proofs.Rows.{contradiction, any-in, any-from, some-value, gather-in, gather-from, gather-length, map-in, map-from}
@@ -138,7 +138,7 @@ few p g s e =
     let r = shows-in p g s e in
     subst (λ (u : Shown). length (u .yeses) ≤ length (u .ticket .lines)) (r .3) (gather-length (λ l. yesForLine p g (r .0) (p .says l)) (r .0 .lines))
 
-few-today : (v : Meaning) (g : List Thing) (s : Shown) → shows (today v) g ≡ Some s → length (s .yeses) ≤ mostLines
+few-today : (v : Meaning) (g : List Thing) (s : Shown) → shows (today v) g ≡ Some s → length (s .yeses) ≤ mostYeses
 few-today v g s e =
     let r = shows-in (today v) g s e in
     let most = leb-true (length (r .0 .lines)) mostLines (can-by-parts (today v) g (r .0) (r .2) .0) in

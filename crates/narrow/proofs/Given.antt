@@ -2,11 +2,12 @@
 use mathlib.Core.Path.{_≡_, refl, sym, ap, _∙_}
 use mathlib.Core.List.{List, _∷_, _++_, List·Memᴰ, Memᴰ·cast, cons-eq-cons}
 use mathlib.Core.Logic.{_⊎_, inl, inr}
-use Rattle.narrow.specs.Term.{Bytes, House, KeyOf, Term, Secret, Mac, Gets, has, mac, tie, macs}
-use Rattle.narrow.specs.Ticket.{Ticket, Yes, Extends, Narrows, ticketMac, yesMac, yesMessage, tieOf, withLine, withLimit, Thing, ATicket, AYes, ATied, AKey, termOf, termsOf, given, line, limit, yesUnder, tied}
-use Rattle.narrow.specs.Promise.{MakesWithin, TicketGiven, YesGiven, TieGiven}
+use Rattle.narrow.specs.Term.{Bytes, House, KeyOf, Term, Secret, Mac, Gets, has, mac, tie, macs, Origin}
+use Rattle.narrow.specs.Ticket.{Ticket, Yes, Extends, Narrows, ticketMac, yesMac, yesMessage, tieOf, withLine, withLimit, Thing, ATicket, AYes, ATied, AKey, termOf, termsOf, given, line, limit, yesUnder, tied, bare}
+use Rattle.narrow.specs.Promise.{MakesWithin, MakesOnly, KeysGiven, TicketGiven, YesGiven, TieGiven}
 use Rattle.narrow.proofs.Rows.{contradiction, map-in}
 use Rattle.narrow.proofs.Terms.{given-or-made, root, messages, root-macs, messages-macs, macs-push, front-given}
+use Prim.Native.Nat.{ℕ}
 
 pub ticket-root : (t : Ticket) → root (ticketMac t) ≡ Secret House
 ticket-root t = root-macs (Secret House) (t .number ∷ t .lines)
@@ -103,3 +104,34 @@ makes-within have t (line s l d) = rw (line-mac s l) (mac l (makes-within have (
 makes-within have t (limit y l d) = rw (limit-mac y l) (mac l (makes-within have (yesMac y) d))
 makes-within have t (yesUnder k m) = mac yesMessage (has m)
 makes-within have t (tied s y a e) = tie (makes-within have (ticketMac s) a) (makes-within have (yesMac y) e)
+
+pub makes-only : MakesOnly
+makes-only have u (given m) = inl m
+makes-only have u (line s l d) = inr (inl (withLine s l, refl))
+makes-only have u (limit y l d) = inr (inr (inl (withLimit y l, refl)))
+makes-only have u (yesUnder k m) = inr (inr (inl (bare k, refl)))
+makes-only have u (tied s y a e) = inr (inr (inr (s, y, refl)))
+
+-- which given thing is a secret
+secret-of : (o : Origin) (x : Thing) → Secret o ≡ termOf x → (k : ℕ) × (o ≡ KeyOf k) × (AKey k ≡ x)
+secret-of o (ATicket t) e = let m = ticket-messages t in let n : messages (Secret o) ≡ messages (ticketMac t) = ap messages e in contradiction (cc)
+secret-of o (AYes y) e = let m = yes-messages y in let n : messages (Secret o) ≡ messages (yesMac y) = ap messages e in contradiction (cc)
+secret-of o (ATied t y) e = contradiction (cc)
+secret-of o (AKey k) e = (k, cc, refl)
+
+-- a secret that can be derived was given
+secret-given : (g : List Thing) (o : Origin) → Gets (termsOf g) (Secret o) → (k : ℕ) × (o ≡ KeyOf k) × List·Memᴰ (AKey k) g
+secret-given g o d = there (given-or-made d)
+  where
+    there : List·Memᴰ (Secret o) (termsOf g) ⊎ ⊥ → (k : ℕ) × (o ≡ KeyOf k) × List·Memᴰ (AKey k) g
+    there (inl m) =
+        let (x, i, e) = map-in termOf g (Secret o) m in
+        let (k, same, is) = secret-of o x e in
+        (k, same, Memᴰ·cast is i)
+    there (inr n) = absurd n
+
+pub keys-given : KeysGiven
+keys-given g = (
+  λ d. let (k, e, m) = secret-given g House d in contradiction (cc),
+  λ k d. let (j, e, m) = secret-given g (KeyOf k) d in let same : k ≡ j = cc in Memᴰ·cast (ap AKey same) m,
+)

@@ -96,32 +96,31 @@ line-holds served (Else k) elses e = elses k refl
 line-holds served Unreadable elses e = e
 
 module _ (p : Policy) (w : Meaning) (g : List Thing)
-    (fewer : (l : Bytes) (k : ℕ) → w l ≡ Else k → p .says l ≡ Else k)
+    (fewer : (x : Thing) → List·Memᴰ x g → (ls : List Bytes) → List·Memᴰ ls (rowsOf x) → (l : Bytes) → List·Memᴰ l ls → (k : ℕ) → w l ≡ Else k → p .says l ≡ Else k)
     (rows : (x : Thing) → List·Memᴰ x g → (ls : List Bytes) → List·Memᴰ ls (rowsOf x) → limitsHold (p .says) ls ≡ true → limitsHold w ls ≡ true) where
   abbrev other : Policy
   other = record { says = w; takes = p .takes; uses = p .uses }
 
-  -- lines that are met by the first meaning are met by the second, where all their limits hold
-  met-other : (served more : ℕ → Bool) (ls : List Bytes) → ((k : ℕ) → served k ≡ true → more k ≡ true) → limitsHold w ls ≡ true →
+  -- a row of lines that stands on a given thing
+  abbrev OnGiven : List Bytes → Type 0
+  OnGiven ls = (x : Thing) × List·Memᴰ x g × List·Memᴰ ls (rowsOf x)
+
+  -- such lines that are met by the first meaning are met by the second
+  met-other : (served more : ℕ → Bool) (ls : List Bytes) → OnGiven ls → ((k : ℕ) → served k ≡ true → more k ≡ true) →
       allMet (p .says) served ls ≡ true → allMet w more ls ≡ true
-  met-other served more ls grow held e =
+  met-other served more ls (x, i, r) grow e =
+      let held = rows x i ls r (all-met-more (p .says) served (λ k. true) ls (λ l m k q h. refl) e) in
       all-from (λ l. met more (w l)) ls
       (λ l m.
       line-holds more (w l)
-      (λ k q. grow k (ap (met served) (sym (fewer l k q)) ∙ all-at (λ x. met served (p .says x)) m e))
-      (all-at (λ x. met (λ k. true) (w x)) m held))
-
-  limits-hold : (served : ℕ → Bool) (ls : List Bytes) → allMet (p .says) served ls ≡ true → limitsHold (p .says) ls ≡ true
-  limits-hold served ls e = all-met-more (p .says) served (λ k. true) ls (λ l m k q h. refl) e
-
-  holds-other : (y : Yes) → (limitsHold (p .says) (y .lines) ≡ true → limitsHold w (y .lines) ≡ true) → holds (p .says) y ≡ true → holds w y ≡ true
-  holds-other y row e = met-other noKey noKey (y .lines) (λ k h. h) (row (limits-hold noKey (y .lines) e)) e
+      (λ k q. grow k (ap (met served) (sym (fewer x i ls r l m k q)) ∙ all-at (λ y. met served (p .says y)) m e))
+      (all-at (λ y. met (λ k. true) (w y)) m held))
 
   way-holds : (t : Ticket) {x : Thing} {y : Yes} → List·Memᴰ x g → Way t x y → holds (p .says) y ≡ true → holds w y ≡ true
   unfolding all
   way-holds t m (viaKey k) e = refl
-  way-holds t m (viaFree y) e = holds-other y (rows (AYes y) m (y .lines) (List·Memᴰ·head refl)) e
-  way-holds t m (viaTie s y q) e = holds-other y (rows (ATied s y) m (y .lines) (List·Memᴰ·tail (List·Memᴰ·head refl))) e
+  way-holds t m (viaFree y) e = met-other noKey noKey (y .lines) (AYes y, m, List·Memᴰ·head refl) (λ k h. h) e
+  way-holds t m (viaTie s y q) e = met-other noKey noKey (y .lines) (ATied s y, m, List·Memᴰ·tail (List·Memᴰ·head refl)) (λ k h. h) e
 
   yes-other : (t : Ticket) (k : ℕ) → isSome (yesFor p g t k) ≡ true → isSome (yesFor other g t k) ≡ true
   yes-other t k e =
@@ -132,10 +131,10 @@ module _ (p : Policy) (w : Meaning) (g : List Thing)
       (serves-from other k (y .0) (record { used = s .used; keyed = s .keyed; held = way-holds t (r .1) (r .2) (s .held) }))
 
   -- the lines of a tried ticket stand on a given thing
-  row-other : (t : Ticket) → List·Memᴰ t (tried g) → limitsHold (p .says) (t .lines) ≡ true → limitsHold w (t .lines) ≡ true
-  row-other t m =
-      ⊎-elim (λ (i : List·Memᴰ (ATicket t) g). rows (ATicket t) i (t .lines) (List·Memᴰ·head refl))
-      (λ (i : (y : Yes) × List·Memᴰ (ATied t y) g). rows (ATied t (i .0)) (i .1) (t .lines) (List·Memᴰ·head refl)) (tried-thing g t m)
+  tried-on : (t : Ticket) → List·Memᴰ t (tried g) → OnGiven (t .lines)
+  tried-on t m =
+      ⊎-elim (λ (i : List·Memᴰ (ATicket t) g). (ATicket t, i, List·Memᴰ·head refl))
+      (λ (i : (y : Yes) × List·Memᴰ (ATied t y) g). (ATied t (i .0), i .1, List·Memᴰ·head refl)) (tried-thing g t m)
 
   can-other : can p g ≡ true → can other g ≡ true
   can-other e =
@@ -144,8 +143,7 @@ module _ (p : Policy) (w : Meaning) (g : List Thing)
       let served : ℕ → Bool = λ k. isSome (yesFor p g (t .0) k) in
       can-from other g (t .0) (t .1)
       (can-by-from other g (t .0) (both .0)
-      (met-other served (λ k. isSome (yesFor other g (t .0) k)) (t .0 .lines) (yes-other (t .0))
-      (row-other (t .0) (t .1) (limits-hold served (t .0 .lines) (both .1))) (both .1)))
+      (met-other served (λ k. isSome (yesFor other g (t .0) k)) (t .0 .lines) (tried-on (t .0) (t .1)) (yes-other (t .0)) (both .1)))
 
 pub more-holds : MoreHolds
 more-holds = can-other

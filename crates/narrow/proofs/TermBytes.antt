@@ -1,19 +1,20 @@
 -- Terms with the same bytes are the same, or HMAC is broken; and what follows for what is shown. Assumes nothing.
 use mathlib.Core.Path.{_≡_, refl, sym, ap, subst}
 use mathlib.Core.Bool.{Bool, true}
-use mathlib.Core.List.{List, [], _∷_, List·Memᴰ, List·Memᴰ·head, List·Memᴰ·tail, List·Memᴰ·not-nil, List·Memᴰ·cases-cons}
+use mathlib.Core.List.{List, [], _∷_, List·Memᴰ, List·Memᴰ·head, List·Memᴰ·tail, List·Memᴰ·not-nil, List·Memᴰ·cases-cons, map}
 use mathlib.Core.Logic.{_⊎_, inl, inr, ⊎-elim, _≢_}
 use native.Mathlib.Omega.{arith}
 use lib.ListN.{length}
-use Rattle.std.proofs.shelf.Tests.{cases-eq, cases-bool}
-use Rattle.narrow.specs.Term.{Bytes, macLength, Origin, House, KeyOf, Term, Secret, Own, Mac, Tie, Gets}
-use Rattle.narrow.specs.Ticket.{termsOf, shownTerms, CanShow}
-use Rattle.narrow.specs.Can.{sameBytes}
+use Rattle.std.proofs.shelf.Tests.{and-parts, cases-eq, cases-bool}
+use Rattle.narrow.specs.Term.{Bytes, macLength, Origin, House, KeyOf, Term, Secret, Own, Mac, Tie, Gets, macs}
+use Rattle.narrow.specs.Ticket.{termsOf, shownTerms, CanShow, Shown, ticketMac, yesMessage, tieOf, Thing, Yes}
+use Rattle.narrow.specs.Can.{sameBytes, can}
 use Rattle.narrow.specs.TermBytes
-use Rattle.narrow.specs.TermBytes.{Interpretation, tieMessage, bytesOf, sourceOf, Part, itself, under, left, right, Clash, Broken, SameOrBroken, BrokenIn, ShownOrBroken, CanOrBroken, Sized, NoTie, Message, ofNumber, ofYes, ofLine, Formatted, inputOf, FormatsApart}
-use Rattle.narrow.proofs.Rows.{contradiction, map-from}
+use Rattle.narrow.specs.TermBytes.{Interpretation, tieMessage, bytesOf, sourceOf, Part, itself, under, left, right, Clash, Broken, SameOrBroken, BrokenIn, ShownOrBroken, CanOrBroken, Sized, NoTie, Message, ofNumber, ofYes, ofLine, Formatted, inputOf, FormatsApart, InputsGive, ShownLines, HmacBrokenIn, CanOrHmacBroken}
+use Rattle.narrow.proofs.Rows.{contradiction, map-in, map-from}
 use Rattle.narrow.proofs.Can.{same-bytes}
 use Rattle.narrow.proofs.Exact.{complete}
+use Rattle.narrow.specs.Rows.{all}
 
 -- bytes are equal or not
 bytes-cases : (a b : Bytes) → (a ≡ b) ⊎ (a ≢ b)
@@ -102,7 +103,7 @@ shown-or-broken i have s shown e d = each-or (shownTerms s) derived
     derived t m =
         let place : List·Memᴰ (bytesOf i t) shown = rw e (map-from (bytesOf i) m) in
         let r = d (bytesOf i t) place in
-        ⊎-elim (λ (q : r .term ≡ t). inl (subst (Gets have) q (r .gets))) (λ (b : Broken i (r .term) t). inr (t, m, bytesOf i t, place, b)) (same i (r .term) t (r .same))
+        ⊎-elim (λ (q : r .term ≡ t). inl (subst (Gets have) q (r .gets))) (λ (b : Broken i (r .term) t). inr (t, m, bytesOf i t, place, refl, b)) (same i (r .term) t (r .same))
 
 pub can-or-broken : CanOrBroken
 can-or-broken i p closed g s shown e d h =
@@ -167,3 +168,43 @@ module _ (i : Interpretation) (z : Sized i) (isLine : Bytes → Bool) (none : (l
 
 pub formats-apart : FormatsApart
 formats-apart i z isLine none = record { no-tie = no-tie i z isLine none; broken = broken i z isLine none }
+
+pub inputs-give : InputsGive
+unfolding inputOf bytesOf
+inputs-give i (Secret o) k m e = contradiction (cc)
+inputs-give i (Own b) k m e = contradiction (cc)
+inputs-give i (Mac t l) k m e = cc
+inputs-give i (Tie a b) k m e = cc
+
+-- a row of MACs of the formats' messages under a formatted term
+formatted-macs : (isLine : Bytes → Bool) (t : Term) (ls : List Bytes) → Formatted isLine t → all isLine ls ≡ true → Formatted isLine (macs t ls)
+unfolding macs all Formatted
+formatted-macs isLine t [] f e = f
+formatted-macs isLine t (l ∷ ls) f e =
+    let (here, below) = and-parts (isLine l) (all isLine ls) e in
+    formatted-macs isLine (Mac t l) ls (f, ofLine here) below
+
+-- the terms that the house works out are formatted
+shown-formatted : (isLine : Bytes → Bool) (s : Shown) → ShownLines isLine s → (t : Term) → List·Memᴰ t (shownTerms s) → Formatted isLine t
+unfolding macs Formatted
+shown-formatted isLine s h t m = ⊎-elim first rest (List·Memᴰ·cases-cons m)
+  where
+    ticket : Formatted isLine (ticketMac (s .ticket))
+    ticket = formatted-macs isLine (Mac (Secret House) (s .ticket .number)) (s .ticket .lines) (tt, ofNumber (h .number)) (h .lines)
+
+    first : t ≡ ticketMac (s .ticket) → Formatted isLine t
+    first e = subst (Formatted isLine) (sym e) ticket
+
+    rest : List·Memᴰ t (map (tieOf (s .ticket)) (s .yeses)) → Formatted isLine t
+    rest j =
+        let (y, i, e) = map-in (tieOf (s .ticket)) (s .yeses) t j in
+        let yes′ = formatted-macs isLine (Mac (Secret (KeyOf (y .key))) yesMessage) (y .lines) (tt, ofYes) (h .limits y i) in
+        subst (Formatted isLine) (sym e) (ticket, yes′)
+
+pub can-or-hmac-broken : CanOrHmacBroken
+can-or-hmac-broken i z isLine none p closed g s shown h e d f l =
+    ⊎-elim (λ (c : can p g ≡ true). inl c) (λ (b : BrokenIn i (termsOf g) s shown d). inr (real b)) (can-or-broken i p closed g s shown e d l)
+  where
+    real : BrokenIn i (termsOf g) s shown d → HmacBrokenIn i (termsOf g) s shown d
+    real (t, m, b, n, q, k) =
+        (t, m, b, n, q, formats-apart i z isLine none .broken (d b n .term) t (f b n) (shown-formatted isLine s h t m) k)

@@ -13,6 +13,7 @@ use Rattle.narrow.specs.Term.{Bytes}
 use Rattle.narrow.specs.Ticket.{Ticket, Yes, Shown, Thing, ATicket, AYes, ATied, AKey, bare}
 use Rattle.narrow.specs.Policy.{Says, Limit, Else, Unreadable, Policy, allMet, serves}
 
+-- the two are the same bytes
 abbrev pub sameBytes : Bytes → Bytes → Bool
 sameBytes a b = sameRow eqb a b
 
@@ -24,6 +25,7 @@ sameTicket t s = sameBytes (t .number) (s .number) && sameRow sameBytes (t .line
 abbrev pub extends : Ticket → Ticket → Bool
 extends t s = sameBytes (t .number) (s .number) && beginsWith sameBytes (t .lines) (s .lines)
 
+-- the ticket that a thing is
 abbrev pub theTicket : Thing → Option Ticket
 theTicket (ATicket t) = Some t
 theTicket (AYes y) = None
@@ -93,6 +95,7 @@ yesForLine p g t Unreadable = None
 unfoldable pub yesesFor : Policy → List Thing → Ticket → List Yes
 yesesFor p g t = gather (λ l. yesForLine p g t (p .says l)) (t .lines)
 
+-- what is shown by a ticket
 abbrev pub shownBy : Policy → List Thing → Ticket → Shown
 shownBy p g t = record { ticket = t; yeses = yesesFor p g t }
 
@@ -100,5 +103,6 @@ shownBy p g t = record { ticket = t; yeses = yesesFor p g t }
 unfoldable pub shows : Policy → List Thing → Option Shown
 shows p g = first (λ t. whenTrue (canBy p g t) (shownBy p g t)) (tried g)
 
+-- whether one can: there is something to show
 unfoldable pub can : Policy → List Thing → Bool
 can p g = isSome (shows p g)

@@ -34,6 +34,10 @@ Closed p = (t s : Ticket) → Extends t s → p .takes t ≡ true → p .takes s
 abbrev pub mostLines : ℕ
 mostLines = 32
 
+-- how many yeses are shown at the most
+abbrev pub mostYeses : ℕ
+mostYeses = 32
+
 -- the policy of today, by the meaning of lines: tickets of at most 32 lines, and the yeses of all keys
 abbrev pub today : Meaning → Policy
 today v = record { says = v; takes = λ t. leb (length (t .lines)) mostLines; uses = λ k. true }
@@ -44,6 +48,7 @@ met served (Limit b) = b
 met served (Else k) = served k
 met served Unreadable = false
 
+-- all lines of a row are met
 abbrev pub allMet : Meaning → (ℕ → Bool) → List Bytes → Bool
 allMet v served ls = all (λ l. met served (v l)) ls
 

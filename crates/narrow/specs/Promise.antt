@@ -7,9 +7,9 @@ use Prim.Native.Nat.{ℕ, _≤_}
 use lib.ListN.{length}
 use Rattle.std.specs.declared.option.Option.the-variants.{Some, None}
 use Rattle.std.specs.Orderings.{Decides}
-use Rattle.narrow.specs.Term.{Bytes, Term, Gets}
+use Rattle.narrow.specs.Term.{Bytes, House, KeyOf, Term, Secret, Gets}
 use Rattle.narrow.specs.Ticket.{Ticket, Yes, withLine, withLimit, Extends, Narrows, ticketMac, yesMac, tieOf, Thing, ATicket, AYes, ATied, AKey, termsOf, Makes, Shown, CanShow, CanMake}
-use Rattle.narrow.specs.Policy.{Limit, Else, Unreadable, Meaning, Policy, Closed, today, mostLines, allMet, lets}
+use Rattle.narrow.specs.Policy.{Limit, Else, Unreadable, Meaning, Policy, Closed, today, mostYeses, allMet, lets}
 use Rattle.narrow.specs.Can.{shows, can}
 
 -- What the narrow attacker makes, the wide one derives.
@@ -31,6 +31,17 @@ abbrev pub TieGiven : Type 0
 TieGiven =
     (g : List Thing) (t : Ticket) (y : Yes) → Gets (termsOf g) (tieOf t y) →
     List·Memᴰ (ATied t y) g ⊎ (Gets (termsOf g) (ticketMac t) × Gets (termsOf g) (yesMac y))
+
+-- Nobody derives the house's key; and whoever derives key k was given it, not only a yes of it.
+abbrev pub KeysGiven : Type 0
+KeysGiven =
+    (g : List Thing) → (Gets (termsOf g) (Secret House) → ⊥) × ((k : ℕ) → Gets (termsOf g) (Secret (KeyOf k)) → List·Memᴰ (AKey k) g)
+
+-- What the narrow attacker makes is what was given, or the term of a ticket, of a yes or of a tie.
+abbrev pub MakesOnly : Type 0
+MakesOnly =
+    (have : List Term) (u : Term) → Makes have u →
+    List·Memᴰ u have ⊎ (((t : Ticket) × (u ≡ ticketMac t)) ⊎ (((y : Yes) × (u ≡ yesMac y)) ⊎ ((t : Ticket) × (y : Yes) × (u ≡ tieOf t y))))
 
 -- The policy of today takes with a ticket those with its last lines left off.
 abbrev pub TodayClosed : Type 0
@@ -119,7 +130,7 @@ limitsHold v ls = allMet v (λ k. true) ls
 abbrev pub MoreHolds : Type 0
 MoreHolds =
     (p : Policy) (w : Meaning) (g : List Thing) →
-    ((l : Bytes) (k : ℕ) → w l ≡ Else k → p .says l ≡ Else k) →
+    ((x : Thing) → List·Memᴰ x g → (ls : List Bytes) → List·Memᴰ ls (rowsOf x) → (l : Bytes) → List·Memᴰ l ls → (k : ℕ) → w l ≡ Else k → p .says l ≡ Else k) →
     ((x : Thing) → List·Memᴰ x g → (ls : List Bytes) → List·Memᴰ ls (rowsOf x) → limitsHold (p .says) ls ≡ true → limitsHold w ls ≡ true) →
     can p g ≡ true → can (record { says = w; takes = p .takes; uses = p .uses }) g ≡ true
 
@@ -127,4 +138,4 @@ MoreHolds =
 abbrev pub FewYeses : Type 0
 FewYeses =
     ((p : Policy) (g : List Thing) (s : Shown) → shows p g ≡ Some s → length (s .yeses) ≤ length (s .ticket .lines)) ×
-    ((v : Meaning) (g : List Thing) (s : Shown) → shows (today v) g ≡ Some s → length (s .yeses) ≤ mostLines)
+    ((v : Meaning) (g : List Thing) (s : Shown) → shows (today v) g ≡ Some s → length (s .yeses) ≤ mostYeses)

@@ -4,6 +4,7 @@ use mathlib.Core.List.{List, [], _∷_, List·Memᴰ}
 use Prim.Native.Nat.{ℕ}
 use lib.ListN.{length}
 
+-- bytes, as numbers
 abbrev pub Bytes : Type 0
 Bytes = List ℕ
 

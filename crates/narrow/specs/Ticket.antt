@@ -14,10 +14,11 @@ pub record Yes : Type 0 where
   pub key : ℕ
   pub lines : List Bytes
 
--- one line more, at the end
+-- a ticket with one line more, at the end
 abbrev pub withLine : Ticket → Bytes → Ticket
 withLine t l = record { number = t .number; lines = t .lines ++ l ∷ [] }
 
+-- a yes with one limit more, at the end
 abbrev pub withLimit : Yes → Bytes → Yes
 withLimit y l = record { key = y .key; lines = y .lines ++ l ∷ [] }
 
@@ -56,12 +57,14 @@ pub data Thing : Type 0 where
   ATied : Ticket → Yes → Thing
   AKey : ℕ → Thing
 
+-- the term that is given with a thing
 abbrev pub termOf : Thing → Term
 termOf (ATicket t) = ticketMac t
 termOf (AYes y) = yesMac y
 termOf (ATied t y) = tieOf t y
 termOf (AKey k) = Secret (KeyOf k)
 
+-- all terms that are given
 abbrev pub termsOf : List Thing → List Term
 termsOf g = map termOf g
 

@@ -18,25 +18,34 @@ smallSays (n ∷ []) = Limit (eqb n 0)
 smallSays (n ∷ k ∷ []) = Else k
 smallSays (n ∷ k ∷ l ∷ ls) = Unreadable
 
+-- a limit that holds
 abbrev pub holding : Bytes
 holding = 0 ∷ []
 
+-- a limit that doesn't
 abbrev pub failing : Bytes
 failing = 1 ∷ []
 
+-- a line that can't be read
 abbrev pub unreadable : Bytes
 unreadable = []
 
+-- lines that ask for a yes of key 5, and of key 4
 abbrev pub elseFive : Bytes
 elseFive = 6 ∷ 5 ∷ []
 
--- a ticket and a yes by their lines
+abbrev pub elseFour : Bytes
+elseFour = 6 ∷ 4 ∷ []
+
+-- a ticket by its lines
 abbrev pub ticketOf : List Bytes → Ticket
 ticketOf ls = record { number = 0 ∷ 0 ∷ 0 ∷ 7 ∷ []; lines = ls }
 
+-- a yes of key 5 by its lines
 abbrev pub fiveOf : List Bytes → Yes
 fiveOf ls = record { key = 5; lines = ls }
 
+-- what is shown, by the ticket's lines and the yeses
 abbrev pub showing : List Bytes → List Yes → Option Shown
 showing ls ys = Some (record { ticket = ticketOf ls; yeses = ys })
 
@@ -45,9 +54,11 @@ pub record Case : Type 0 where
   pub given : List Thing
   pub shown : Option Shown
 
+-- a row of the table
 abbrev pub case : List Thing → Option Shown → Case
 case g s = record { given = g; shown = s }
 
+-- the table
 abbrev pub cases : List Case
 cases =
     -- a limit that holds, one that doesn't, a line that can't be read; two tickets, each with a limit that doesn't hold
@@ -73,6 +84,13 @@ cases =
     ∷ case (ATied (ticketOf (elseFive ∷ [])) (fiveOf (holding ∷ [])) ∷ AYes (fiveOf (failing ∷ [])) ∷ AYes (fiveOf (holding ∷ holding ∷ [])) ∷ AYes (bare 5) ∷ ATicket (ticketOf (elseFive ∷ elseFive ∷ [])) ∷ [])
     (showing (elseFive ∷ elseFive ∷ []) (fiveOf (holding ∷ holding ∷ []) ∷ fiveOf (holding ∷ holding ∷ []) ∷ []))
     ∷ case (ATied (ticketOf (elseFive ∷ [])) (fiveOf (holding ∷ [])) ∷ ATicket (ticketOf (elseFive ∷ [])) ∷ []) (showing (elseFive ∷ []) (fiveOf (holding ∷ []) ∷ []))
+    -- the yeses in the order of the lines; the first of two given tickets, of two that are made, and of two yeses tied to one ticket
+    ∷ case (AKey 4 ∷ AKey 5 ∷ ATicket (ticketOf (elseFive ∷ elseFour ∷ [])) ∷ []) (showing (elseFive ∷ elseFour ∷ []) (bare 5 ∷ bare 4 ∷ []))
+    ∷ case (ATicket (ticketOf (holding ∷ [])) ∷ ATicket (ticketOf (holding ∷ holding ∷ [])) ∷ []) (showing (holding ∷ []) [])
+    ∷ case (ATied (ticketOf (elseFive ∷ holding ∷ [])) (bare 5) ∷ ATicket (ticketOf (elseFive ∷ [])) ∷ ATied (ticketOf (elseFive ∷ holding ∷ holding ∷ [])) (bare 5) ∷ [])
+    (showing (elseFive ∷ holding ∷ []) (bare 5 ∷ []))
+    ∷ case (ATicket (ticketOf (elseFive ∷ [])) ∷ ATied (ticketOf (elseFive ∷ [])) (fiveOf (failing ∷ [])) ∷ ATied (ticketOf (elseFive ∷ [])) (fiveOf (holding ∷ [])) ∷ ATied (ticketOf (elseFive ∷ [])) (bare 5) ∷ [])
+    (showing (elseFive ∷ []) (fiveOf (holding ∷ []) ∷ []))
     -- a given ticket before one that is made; no more lines than a ticket may have
     ∷ case (ATied (ticketOf (holding ∷ holding ∷ [])) (bare 5) ∷ ATicket (ticketOf (failing ∷ [])) ∷ ATicket (ticketOf (holding ∷ [])) ∷ []) (showing (holding ∷ []) [])
     ∷ case (ATicket (ticketOf (replicate mostLines holding)) ∷ []) (showing (replicate mostLines holding) [])

@@ -3,9 +3,9 @@
 // and without the proof the crate is refused.
 mod by_number;
 
-ghost use Rattle.narrow.specs.Promise.{MakesWithin, TicketGiven, YesGiven, TieGiven, TodayClosed, LetsMeans, ShownNarrower};
+ghost use Rattle.narrow.specs.Promise.{MakesWithin, MakesOnly, KeysGiven, TicketGiven, YesGiven, TieGiven, TodayClosed, LetsMeans, ShownNarrower};
 ghost use Rattle.narrow.specs.Promise.{Sound, Complete, AttackersMeet, FewYeses, MoreCovered, LineLess, MoreGiven, MoreHolds};
-ghost use Rattle.narrow.specs.TermBytes.{SameOrBroken, ShownOrBroken, CanOrBroken, FormatsApart};
+ghost use Rattle.narrow.specs.TermBytes.{SameOrBroken, ShownOrBroken, CanOrBroken, FormatsApart, InputsGive, CanOrHmacBroken};
 ghost use Rattle.narrow.specs.Worked.{WorkedCases};
 pub use by_number::numbered_line_less;
 pub use by_number::numbered_main;
@@ -89,22 +89,22 @@ pub fn more_holds()
     ensures { λ _. ⌜ MoreHolds ⌝ }
 {}
 
-// Two terms with the same bytes are the same, or HMAC is broken at parts of them.
+// Two terms with the same bytes are the same, or parts of them have the same bytes from different sources.
 pub fn same_or_broken()
     ensures { λ _. ⌜ SameOrBroken ⌝ }
 {}
 
-// What is shown with right bytes can be derived, or HMAC is broken there.
+// What is shown with right bytes can be derived, or it is broken there.
 pub fn shown_or_broken()
     ensures { λ _. ⌜ ShownOrBroken ⌝ }
 {}
 
-// Complete, on bytes: `can` says yes, or HMAC is broken there.
+// Complete, on bytes: `can` says yes, or it is broken there.
 pub fn can_or_broken()
     ensures { λ _. ⌜ CanOrBroken ⌝ }
 {}
 
-// No message of the formats is that of a tie, so that what is broken is HMAC itself.
+// No message of the formats is that of a tie; so between terms that MAC only such messages, what is broken is HMAC itself.
 pub fn formats_apart()
     ensures { λ _. ⌜ FormatsApart ⌝ }
 {}
@@ -112,4 +112,24 @@ pub fn formats_apart()
 // Worked cases: what is shown for some rows of given things.
 pub fn worked_cases()
     ensures { λ _. ⌜ WorkedCases ⌝ }
+{}
+
+// Nobody derives the house's key, and whoever derives key k was given it.
+pub fn keys_given()
+    ensures { λ _. ⌜ KeysGiven ⌝ }
+{}
+
+// What the narrow attacker makes is what was given, or the term of a ticket, a yes or a tie.
+pub fn makes_only()
+    ensures { λ _. ⌜ MakesOnly ⌝ }
+{}
+
+// The input of HMAC is what a term's bytes are worked out from.
+pub fn inputs_give()
+    ensures { λ _. ⌜ InputsGive ⌝ }
+{}
+
+// Complete, on bytes, where only the formats' messages are MACed: `can` says yes, or HMAC itself is broken there.
+pub fn can_or_hmac_broken()
+    ensures { λ _. ⌜ CanOrHmacBroken ⌝ }
 {}

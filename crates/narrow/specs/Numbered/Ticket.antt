@@ -143,7 +143,7 @@ tiedTickets ts (s ∷ ss) = cond (anyMadeOf (s .ticket) ts) (s .ticket ∷ tiedT
 abbrev pub can : Holds → ℕ → Given → Bool
 can h q g = anyCan h q g (g .tickets ++ tiedTickets (g .tickets) (g .tied))
 
--- what to show: the first ticket by which it can be done, and for each line that asks for a yes one without limits if there is the key, else the first given one that holds, else the first tied one
+-- what to show: the first ticket by which it can be done, and for each line that asks for a yes one without limits if there is the key, else the first given one that holds, else the first tied to just this ticket
 pub data Maybe : Type 0 where
   None : Maybe
   Some : Shown → Maybe
