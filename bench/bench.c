@@ -167,5 +167,7 @@ int main(void) {
     bench_long();
     bench_four(5);
     bench_four(33);
-    return sink == 0 ? 0 : 0;
+    /* so that no measured call can be left out */
+    fprintf(stderr, "checksum %02x\n", (unsigned)(sink & 0xff));
+    return 0;
 }

@@ -3,7 +3,7 @@
 # It needs a C compiler, libssl-dev and libsodium-dev.
 set -eu
 cd "$(dirname "$0")/.."
-rt staticlib hmac_c >/dev/null 2>&1
+rt staticlib hmac_c >/dev/null
 runtime=$(dirname "$(dirname "$(rt doc)")")/lib/librattle_c.a
 out=target/bench
 mkdir -p "$out"

@@ -3,10 +3,9 @@
 ghost use Prim.Native.Nat.{_+_, _*_, _≤_};
 ghost use Rattle.hmac.specs.Hmac.{hmacOf};
 ghost use Rattle.sha256.specs.Sha256.{sha256};
-ghost use Rattle.std.specs.Orderings.{When};
+ghost use Rattle.std.specs.Orderings.{When, Decides};
 ghost use lib.ListN.{length, take, drop};
 ghost use mathlib.Core.List.{_++_};
-ghost use mathlib.Core.Bool.{true};
 ghost use mathlib.Core.Path.{_≡_};
 use hmac::Mac;
 use hmac4::Request;
@@ -16,7 +15,7 @@ use hmac4::mac_four;
 #[unsafe(no_mangle)]
 pub extern "C" fn hmac_c_sha256(message: &[u8], out: &mut [u8]) -> bool
     ensures value { λ r. ⌜ When r (now (out .exit) ≡ sha256 (now (message .entry))) (now (out .exit) ≡ now (out .entry)) ⌝ }
-    ensures fills { λ r. ⌜ (length (now (out .entry)) ≡ 32 → r ≡ true) ⌝ }
+    ensures fills { λ r. ⌜ Decides r (length (now (out .entry)) ≡ 32) ⌝ }
 {
     if out.len() != 32 {
         return false;
@@ -29,7 +28,7 @@ pub extern "C" fn hmac_c_sha256(message: &[u8], out: &mut [u8]) -> bool
 #[unsafe(no_mangle)]
 pub extern "C" fn hmac_c_mac(key: &[u8], message: &[u8], out: &mut [u8]) -> bool
     ensures value { λ r. ⌜ When r (now (out .exit) ≡ hmacOf (now (key .entry)) (now (message .entry))) (now (out .exit) ≡ now (out .entry)) ⌝ }
-    ensures fills { λ r. ⌜ (length (now (key .entry)) ≡ 32 → length (now (out .entry)) ≡ 32 → r ≡ true) ⌝ }
+    ensures fills { λ r. ⌜ Decides r ((length (now (key .entry)) ≡ 32) × (length (now (out .entry)) ≡ 32)) ⌝ }
 {
     if key.len() != 32 || out.len() != 32 {
         return false;
@@ -62,7 +61,7 @@ pub extern "C" fn hmac_c_mac_four(
     out: &mut [u8],
 ) -> bool
     ensures value { λ r. ⌜ When r (now (out .exit) ≡ hmacOf (take 32 (now (keys .entry))) (now (a .entry)) ++ (hmacOf (take 32 (drop 32 (now (keys .entry)))) (now (b .entry)) ++ (hmacOf (take 32 (drop 64 (now (keys .entry)))) (now (c .entry)) ++ hmacOf (take 32 (drop 96 (now (keys .entry)))) (now (d .entry))))) (now (out .exit) ≡ now (out .entry)) ⌝ }
-    ensures fills { λ r. ⌜ (length (now (keys .entry)) ≡ 128 → length (now (out .entry)) ≡ 128 → r ≡ true) ⌝ }
+    ensures fills { λ r. ⌜ Decides r ((length (now (keys .entry)) ≡ 128) × (length (now (out .entry)) ≡ 128)) ⌝ }
 {
     if keys.len() != 128 || out.len() != 128 {
         return false;

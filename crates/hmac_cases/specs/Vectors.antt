@@ -4,7 +4,7 @@ use mathlib.Core.List.{List, [], _∷_}
 use Prim.Native.Nat.{ℕ}
 use lib.Chars.{codes}
 
--- FIPS 180-4: the digest of "abc"
+-- the digest of "abc", an example that NIST publishes with FIPS 180
 abbrev pub abc : List ℕ
 abc = codes "abc"
 

@@ -45,7 +45,7 @@ fn key(short: &[u8]) -> Mac
     Mac::new(bytes)
 }
 
-// FIPS 180-4's examples: the empty message, 24 bits, 448 bits and a million letters.
+// The examples that NIST publishes with FIPS 180: the empty message, 24 bits, 448 bits and a million letters.
 #[test]
 fn fips_180(rt: LibcRuntime) -> Result<(), Fail> {
     let empty = [

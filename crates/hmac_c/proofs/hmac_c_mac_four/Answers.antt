@@ -26,5 +26,5 @@ returns c =
     let parts = four-parts (c .args .out .now) p q r s (c .if-out-ne128 .left) (ap length pa ∙ hmac-length (take 32 k) (c .args .a .now)) (ap length qb ∙ hmac-length (take 32 (drop 32 k)) (c .args .b .now)) (ap length rd ∙ hmac-length (take 32 (drop 64 k)) (c .args .c .now)) in
     record {
       value = parts ∙ ap (λ x. x ++ (q ++ (r ++ s))) pa ∙ ap (λ x. a ++ (x ++ (r ++ s))) qb ∙ ap (λ x. a ++ (b ++ (x ++ s))) rd ∙ ap (λ x. a ++ (b ++ (d ++ x))) se;
-      fills = λ x y. refl;
+      fills = search needs;
     }
