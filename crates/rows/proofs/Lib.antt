@@ -1,0 +1,9 @@
+pub mod Wire
+pub mod Writes
+pub mod Marks
+pub mod Held
+pub mod Pushed
+pub mod Short
+pub mod Longer
+pub mod Pushing
+pub mod Rowings

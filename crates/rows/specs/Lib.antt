@@ -1,0 +1,4 @@
+pub mod Wire
+pub mod Standing
+pub mod Row
+pub mod Rowing
