@@ -1,0 +1,12 @@
+pub mod Cuts
+pub mod Steps
+pub mod Digits
+pub mod Listing
+pub mod Spans
+pub mod Contents
+pub mod FirstWords
+pub mod Telling
+pub mod Taking
+pub mod Back
+pub mod Fields
+pub mod Wished
