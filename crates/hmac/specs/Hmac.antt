@@ -10,5 +10,6 @@ use Rattle.sha256.specs.Sha256.{sha256}
 unfoldable pub mixed : ℕ → List ℕ → List ℕ
 mixed c key = map (λ b. bitXor b c) (key ++ replicate (64 - length key) 0)
 
+-- the outer hash of the inner one
 unfoldable pub hmacOf : List ℕ → List ℕ → List ℕ
 hmacOf key message = sha256 (mixed 0x5c key ++ sha256 (mixed 0x36 key ++ message))

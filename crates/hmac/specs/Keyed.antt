@@ -5,5 +5,6 @@ use Prim.Native.Nat.{ℕ}
 use Rattle.hmac.specs.declared.Key.{Key}
 use Rattle.hmac.specs.Midstates.{Midstates}
 
+-- the kept midstates are those of this key
 abbrev pub Keyed : List ℕ → Key → Type 0
 Keyed bytes key = Midstates bytes (key .inner) (key .outer)

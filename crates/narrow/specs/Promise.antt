@@ -56,6 +56,7 @@ pub record Through (p : Policy) (s : Shown) : Type 0 where
   pub elses : (l : Bytes) → List·Memᴰ l (s .ticket .lines) → (k : ℕ) → p .says l ≡ Else k →
       (y : Yes) × List·Memᴰ y (s .yeses) × (y .key ≡ k) × (p .uses k ≡ true) × ((m : Bytes) → List·Memᴰ m (y .lines) → p .says m ≡ Limit true)
 
+-- `lets` decides just that.
 abbrev pub LetsMeans : Type 0
 LetsMeans = (p : Policy) (s : Shown) → Decides (lets p s) (Through p s)
 
@@ -66,6 +67,7 @@ pub record Narrower (p : Policy) : Type 0 where
   pub limit : (t : Ticket) (ys : List Yes) (y : Yes) (l : Bytes) (zs : List Yes) →
       lets p (record { ticket = t; yeses = ys ++ withLimit y l ∷ zs }) ≡ true → lets p (record { ticket = t; yeses = ys ++ y ∷ zs }) ≡ true
 
+-- So it is for every closed policy.
 abbrev pub ShownNarrower : Type 0
 ShownNarrower = (p : Policy) → Closed p → Narrower p
 

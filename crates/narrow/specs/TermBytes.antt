@@ -135,6 +135,7 @@ pub record MessagesApart (i : Interpretation) (isLine : Bytes → Bool) : Type 0
   pub no-tie : (m : Bytes) → Message isLine m → (e : Term) → Formatted isLine e → m ≢ tieMessage (bytesOf i e)
   pub broken : (t u : Term) → Formatted isLine t → Formatted isLine u → Broken i t u → Clash i (inputOf i) t u
 
+-- So it is wherever no line is 33 bytes that begin with a 3.
 abbrev pub FormatsApart : Type 0
 FormatsApart =
     (i : Interpretation) → Sized i → (isLine : Bytes → Bool) → ((l : Bytes) → isLine l ≡ true → NoTie l) → MessagesApart i isLine

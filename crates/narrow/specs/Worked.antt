@@ -30,10 +30,11 @@ failing = 1 ∷ []
 abbrev pub unreadable : Bytes
 unreadable = []
 
--- lines that ask for a yes of key 5, and of key 4
+-- a line that asks for a yes of key 5
 abbrev pub elseFive : Bytes
 elseFive = 6 ∷ 5 ∷ []
 
+-- a line that asks for a yes of key 4
 abbrev pub elseFour : Bytes
 elseFour = 6 ∷ 4 ∷ []
 

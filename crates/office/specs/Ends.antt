@@ -20,6 +20,7 @@ asked-by [] = Ok Play
 asked-by (w ∷ []) = cond (sameBytes w (codes "--help")) (Ok Help) (Err Argument)
 asked-by (w ∷ v ∷ ws) = Err Argument
 
+-- a script ends well unless it has a fault
 abbrev pub end-of : Option Fault → Result (Unit {0}) Reason
 end-of None = Ok tt
 end-of (Some f) = Err (Script f)

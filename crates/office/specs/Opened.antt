@@ -7,9 +7,11 @@ use Rattle.script.specs.Rules.{Said, house-of}
 use Rattle.seeds.specs.Keys.{houseKey}
 use Rattle.office.specs.declared.house.House.{House}
 
+-- the house's key, by its bytes
 abbrev pub key-of : House → List ℕ
 key-of h = h .key .bytes
 
+-- the key that a statement opens the house with
 abbrev pub key-said : Said → List ℕ
 key-said (house-of seed) = houseKey seed
 

@@ -7,6 +7,7 @@ use Rattle.script.specs.Wording.{worded}
 use Rattle.office.specs.declared.reasons.Reason.{Reason}
 use Rattle.office.specs.declared.reasons.Reason.the-variants.{Argument, Input, NotText, Output, NoMemory, Script}
 
+-- a reason in plain words
 abbrev pub reason-worded : Reason → List ℕ
 reason-worded Argument = codes "office takes no argument but --help"
 reason-worded Input = codes "standard input can't be read"

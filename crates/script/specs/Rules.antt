@@ -14,9 +14,11 @@ use Rattle.script.specs.declared.Fault.{Fault}
 
 -- ---- a text, its lines, a line's words
 
+-- the byte that parts lines
 abbrev pub newline : ℕ → Bool
 newline b = eqb b 10
 
+-- the byte that begins a comment
 abbrev pub hash : ℕ → Bool
 hash b = eqb b 35
 
@@ -24,6 +26,7 @@ hash b = eqb b 35
 abbrev pub gap : ℕ → Bool
 gap b = among (32 ∷ 9 ∷ 13 ∷ []) b
 
+-- the byte in front of the first part
 abbrev pub onto : ℕ → List (List ℕ) → List (List ℕ)
 onto b [] = (b ∷ []) ∷ []
 onto b (p ∷ ps) = (b ∷ p) ∷ ps
@@ -44,6 +47,7 @@ full [] = []
 full ([] ∷ ps) = full ps
 full ((b ∷ p) ∷ ps) = (b ∷ p) ∷ full ps
 
+-- the lines of a text
 abbrev pub lines-in : List ℕ → List (List ℕ)
 lines-in bs = parts newline bs
 
@@ -51,6 +55,7 @@ lines-in bs = parts newline bs
 abbrev pub uncommented : List ℕ → List ℕ
 uncommented bs = before hash bs
 
+-- the words of a line
 unfoldable pub words-in : List ℕ → List (List ℕ)
 words-in bs = full (parts gap (uncommented bs))
 
@@ -100,5 +105,6 @@ outcome said n (l ∷ ls) =
       | stops c ↦ record { said = said; stop = Some (record { line = n; cause = c }) }
     ]
 
+-- what a text comes to
 abbrev pub reads : List ℕ → Outcome
 reads bs = outcome [] 1 (lines-in bs)

@@ -13,6 +13,7 @@ infixl 65 _⊞_
 abbrev pub _⊞_ : ℕ → ℕ → ℕ
 x ⊞ y = (x + y) % 2 ^ 32
 
+-- the bits turned
 abbrev pub complement : ℕ → ℕ
 complement x = 2 ^ 32 - 1 - x
 
@@ -20,15 +21,19 @@ complement x = 2 ^ 32 - 1 - x
 abbrev pub rotr : ℕ → ℕ → ℕ
 rotr n x = bitOr (x / 2 ^ n) ((x * 2 ^ (32 - n)) % 2 ^ 32)
 
+-- the shift to the right by n bits
 abbrev pub shr : ℕ → ℕ → ℕ
 shr n x = x / 2 ^ n
 
+-- bit by bit, y where x is set, else z
 abbrev pub Ch : ℕ → ℕ → ℕ → ℕ
 Ch x y z = bitXor (bitAnd x y) (bitAnd (complement x) z)
 
+-- bit by bit, what most of the three have
 abbrev pub Maj : ℕ → ℕ → ℕ → ℕ
 Maj x y z = bitXor (bitXor (bitAnd x y) (bitAnd x z)) (bitAnd y z)
 
+-- the four functions of one word
 abbrev pub Σ₀ : ℕ → ℕ
 Σ₀ x = bitXor (bitXor (rotr 2 x) (rotr 13 x)) (rotr 22 x)
 
@@ -71,6 +76,7 @@ unfoldable pub rounds : ℕ → List ℕ → List ℕ → List ℕ
 rounds zero w v = v
 rounds (suc n) w v = round (getD constants n 0) (getD w n 0) (rounds n w v)
 
+-- the hash value after one block
 unfoldable pub compressed : List ℕ → List ℕ → List ℕ
 compressed h block = zip2 _⊞_ h (rounds 64 (schedule 48 block) h)
 
@@ -100,6 +106,7 @@ eight n =
 unfoldable pub padding : ℕ → List ℕ
 padding n = 128 ∷ replicate ((119 - n % 64) % 64) 0 ++ eight (8 * n)
 
+-- the message with its padding
 unfoldable pub padded : List ℕ → List ℕ
 padded message = message ++ padding (length message)
 
@@ -108,5 +115,6 @@ unfoldable pub bytes : List ℕ → List ℕ
 bytes [] = []
 bytes (x ∷ xs) = (x / 2 ^ 24 % 256) ∷ (x / 2 ^ 16 % 256) ∷ (x / 2 ^ 8 % 256) ∷ (x % 256) ∷ bytes xs
 
+-- the digest of a message
 unfoldable pub sha256 : List ℕ → List ℕ
 sha256 message = bytes (absorbed (length (padded message) / 64) (padded message) initial)

@@ -9,6 +9,7 @@ use lib.ListN.{length}
 use Rattle.narrow.specs.Numbered.Term.{Term, Tie}
 use Rattle.narrow.specs.Numbered.Ticket.{Holds, Ticket, YesWord, ticketSum, yesSum, Shown, lets, Given, shows, Maybe}
 
+-- bytes, as numbers
 abbrev pub Bytes : Type 0
 Bytes = List ℕ
 
@@ -18,12 +19,14 @@ pub record Coming : Type 0 where
   pub sum : Bytes
   pub ties : List Bytes
 
+-- the two are the same bytes
 unfoldable pub sameBytes : Bytes → Bytes → Bool
 sameBytes [] [] = true
 sameBytes [] (y ∷ ys) = false
 sameBytes (x ∷ xs) [] = false
 sameBytes (x ∷ xs) (y ∷ ys) = eqb x y && sameBytes xs ys
 
+-- the bytes are those of the ties, one for each yes
 unfoldable pub tiesAre : (Term → Bytes) → Ticket → List YesWord → List Bytes → Bool
 tiesAre m t [] [] = true
 tiesAre m t [] (x ∷ xs) = false

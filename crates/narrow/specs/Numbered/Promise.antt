@@ -34,6 +34,7 @@ LineLess =
     ((h : Holds) (q k m : ℕ) (ms : List ℕ) (ts : List Ticket) (ys : List YesWord) (ss : List Shown) (ks : List ℕ) →
     can h q (record { tickets = ts; yeses = record { key = k; limits = m ∷ ms } ∷ ys; tied = ss; keys = ks }) ≡ true → can h q (record { tickets = ts; yeses = record { key = k; limits = ms } ∷ ys; tied = ss; keys = ks }) ≡ true)
 
+-- Whoever was given more can do no less.
 abbrev pub MoreGiven : Type 0
 MoreGiven =
     (h : Holds) (q : ℕ) (g : Given) (ts : List Ticket) (ys : List YesWord) (ss : List Shown) (ks : List ℕ) → can h q g ≡ true →
@@ -46,5 +47,6 @@ pub record Whole (h : Holds) (q : ℕ) (g : Given) : Type 0 where
   pub if-not : can h q g ≡ false → shows h q g ≡ None
   pub only-so : (s : Shown) → CanShow (termsOf g) s → lets h q s ≡ true → can h q g ≡ true
 
+-- The whole promise: exact, a line more never helps, more given never hurts.
 abbrev pub Main : Type 0
 Main = ((h : Holds) (q : ℕ) (g : Given) → Whole h q g) × (LineLess × MoreGiven)
