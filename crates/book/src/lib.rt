@@ -1,4 +1,6 @@
 // The house's book: its own key, and the keys of yeses that it knows, looked up by number, read and written.
+#![tactic(auto)]
+
 ghost use Rattle.book.specs.Booking.{book_of, book_bytes};
 ghost use Rattle.book.specs.Keys.{secret_in};
 ghost use Rattle.book.specs.Laws.{BookExact, OneOfANumber};

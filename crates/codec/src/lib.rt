@@ -1,4 +1,6 @@
 // All that is passed from hand to hand, in bytes: tickets, yeses, tied yeses and keys. The formats stand in specs/Things.antt.
+#![tactic(auto)]
+
 ghost use Rattle.codec.specs.Laws.{FormatsExact};
 ghost use Rattle.codec.specs.Whole.{LeftOver};
 ghost use Rattle.lines.specs.declared.Fault.{Fault};

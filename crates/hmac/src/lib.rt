@@ -1,5 +1,7 @@
 // HMAC-SHA-256 (RFC 2104) under keys of 32 bytes, of messages of every length.
 // The contracts pin each result by the definition of specs/Hmac.antt, over that of SHA-256 in the crate `sha256`.
+#![tactic(auto)]
+
 ghost use Rattle.std.specs.Prelude.{◌≡◌, ℕ, List, ◌∷◌, Decides};
 ghost use Rattle.hmac.specs.Hmac.{hmac_of};
 ghost use Rattle.hmac.specs.Keyed.{Keyed};

@@ -1,4 +1,6 @@
 // HMAC-SHA-256 of four short messages at once, each in a lane of its own.
+#![tactic(auto)]
+
 ghost use Rattle.hmac.specs.Hmac.{hmac_of};
 ghost use Rattle.sha256.specs.Sha256.{words};
 ghost use Rattle.std.specs.Prelude.{◌≡◌, ◌++◌, replicate};

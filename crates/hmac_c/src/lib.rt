@@ -1,5 +1,7 @@
 // The functions of `hmac` for C: a slice is a pointer and then a length.
 // Each fills `out` and answers true, or answers false and writes nothing where a key or `out` has not its length.
+#![tactic(auto)]
+
 ghost use Rattle.std.specs.Prelude.{◌≡◌, ◌+◌, ◌*◌, ◌≤◌, ◌++◌, length, take, drop, Decides, MatchBool};
 ghost use Rattle.hmac.specs.Hmac.{hmac_of};
 ghost use Rattle.sha256.specs.Sha256.{sha256};

@@ -1,4 +1,6 @@
 // Outside vectors for SHA-256 and HMAC-SHA-256, and the answers of another implementation at lengths around the block's edges.
+#![tactic(auto)]
+
 ghost use Rattle.hmac.specs.Hmac.{hmac_of};
 ghost use Rattle.sha256.specs.Sha256.{sha256};
 ghost use Rattle.hmac_cases.specs.Vectors.{abc, abc_digest, jefe, question, answer};

@@ -1,4 +1,6 @@
 // Whether the lines of a ticket are met, for a wish and the yeses that come with it.
+#![tactic(auto)]
+
 ghost use Rattle.judging.specs.Judged.{first_place, fails, else_fails, judged};
 ghost use Rattle.judging.specs.Laws.{Judges, JudgedRight};
 ghost use Rattle.judging.specs.Views.{bodies};

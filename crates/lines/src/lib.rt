@@ -1,4 +1,6 @@
 // Lines: what they are, what they mean for a wish, and their bytes.
+#![tactic(auto)]
+
 ghost use Rattle.lines.specs.Format.{line_bytes};
 ghost use Rattle.lines.specs.Meaning.{holds_for, may_stand};
 ghost use Rattle.lines.specs.Reading.{line_of};

@@ -5,6 +5,8 @@
 //
 // The first colon cuts the first three into head and tail, and the tail ends in `to PERSON` or `by PERSON`, its last two
 // words. Lines are parted by `;`; only a yes may have none.
+#![tactic(auto)]
+
 ghost use Rattle.making.specs.Forms.{ticket_said, yes_said, add_said, tie_said};
 ghost use Rattle.statements.specs.Views.{Told, stated};
 ghost use Rattle.texts.specs.Cuts.{words_of};

@@ -1,6 +1,8 @@
 // The model: MACs as terms, what can be derived from what somebody was given, what the house lets through, and what `can` says.
 // The definitions stand in specs/, the proofs in proofs/. Each function here only carries a theorem: its contract is the statement,
 // and without the proof the crate is refused.
+#![tactic(auto)]
+
 mod by_number;
 
 ghost use Rattle.narrow.specs.Promise.{MakesWithin, MakesOnly, KeysGiven, TicketGiven, YesGiven, TieGiven, TodayClosed, LetsMeans, ShownNarrower};

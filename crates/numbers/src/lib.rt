@@ -1,4 +1,6 @@
 // Numbers of 16 and 32 bits at the front of lent slices, high byte first.
+#![tactic(auto)]
+
 ghost use Rattle.numbers.specs.Bytes.{two, two_bytes, four_bytes};
 ghost use Rattle.numbers.specs.Lent.{ReadsFront, WritesFront};
 ghost use Rattle.std.specs.Prelude.{◌≡◌};

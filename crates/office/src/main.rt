@@ -1,4 +1,6 @@
 // Plays a script from standard input. As yet it reads the script, and tells the first line that can't be read.
+#![tactic(auto)]
+
 mod arguments;
 mod house;
 mod reasons;

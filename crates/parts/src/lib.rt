@@ -1,4 +1,6 @@
 // What lines and wishes are made of. Each type holds only what can be.
+#![tactic(auto)]
+
 ghost use Rattle.std.specs.Prelude.{◌≡◌, ◌<◌, ◌≤◌, true, false, MatchOption};
 ghost use Rattle.parts.specs.Items.{items};
 ghost use Rattle.parts.specs.Limits.{is_museums, is_name, within};

@@ -1,4 +1,6 @@
 // Lines and wishes as people read them, in the words that they type.
+#![tactic(auto)]
+
 ghost use Rattle.parts.specs.Items.{items};
 ghost use Rattle.lines.specs.Views.{limit_view, line_view};
 ghost use Rattle.wishes.specs.Views.{wish_view};

@@ -7,6 +7,8 @@
 //     add X = OLD: LINE; LINE by PERSON           show PERSON T Z Z ..: WISH
 //
 // Names and persons are any words. A statement with a colon is cut at its first one into head and tail.
+#![tactic(auto)]
+
 ghost use Rattle.reading.specs.Forms.{said_by, said_in};
 ghost use Rattle.statements.specs.Views.{Told, stated};
 ghost use Rattle.std.specs.Option.{option_map};

@@ -1,4 +1,6 @@
 // Rows of lines, as a ticket or a yes has them.
+#![tactic(auto)]
+
 mod adding;
 mod reader;
 mod reading;

@@ -2,6 +2,8 @@
 //
 // A script has a statement a line, as the crate `statements` reads them; the first is `house`. `#` begins a comment, which
 // goes to the line's end. A line with no word says nothing, and is counted.
+#![tactic(auto)]
+
 ghost use Rattle.std.specs.Prelude.{◌≡◌, IfOk};
 ghost use Rattle.script.specs.Laws.{LineByLine, HouseOpensFirst, CommentsAside};
 ghost use Rattle.script.specs.Rules.{lines_in, reads};

@@ -1,4 +1,6 @@
 // The reading of scripts, on examples.
+#![tactic(auto)]
+
 #[cfg(test)]
 mod summary;
 

@@ -1,4 +1,6 @@
 // The keys of a house that a script plays. All come from one word, so that a script plays the same each time; a real house draws its own.
+#![tactic(auto)]
+
 ghost use Rattle.seeds.specs.Keys.{house_key};
 ghost use Rattle.std.specs.Prelude.{◌≡◌};
 

@@ -1,4 +1,6 @@
 // SHA-256 (FIPS 180-4, RFC 6234) of messages of every length. The contracts pin each result by the definitions of specs/Sha256.antt.
+#![tactic(auto)]
+
 ghost use Rattle.std.specs.Prelude.{◌≡◌, ℕ, ◌%◌, ◌<◌, length, slice_index};
 ghost use Rattle.sha256.specs.Sha256.{padded, sha256};
 

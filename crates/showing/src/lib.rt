@@ -1,4 +1,6 @@
 // What is shown to the house, in bytes.
+#![tactic(auto)]
+
 ghost use Rattle.codec.specs.Format.{counted};
 ghost use Rattle.codec.specs.Things.{tied};
 ghost use Rattle.narrow.specs.Policy.{most_yeses};

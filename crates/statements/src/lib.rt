@@ -1,4 +1,6 @@
 // What a statement of a script is.
+#![tactic(auto)]
+
 ghost use Rattle.std.specs.Prelude.{◌≡◌, IfOk, string_bytes};
 ghost use Rattle.statements.specs.declared.Trouble.TheVariants.{Unreadable, NoMemory};
 

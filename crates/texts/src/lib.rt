@@ -2,6 +2,8 @@
 //
 // Spaces, tabs and carriage returns part words, as many as there are. Numbers are decimal digits; zeros in front count for
 // nothing.
+#![tactic(auto)]
+
 mod cut;
 mod labels;
 mod numeral;

@@ -1,5 +1,7 @@
 // Tickets and yeses: made, made longer, and tied. Lines can be added by anybody, and none can be taken off, as each is MACed under the
 // MAC before.
+#![tactic(auto)]
+
 ghost use Rattle.hmac.specs.Hmac.{hmac_of};
 ghost use Rattle.numbers.specs.Bytes.{four_bytes};
 ghost use Rattle.rows.specs.Row.{rows};

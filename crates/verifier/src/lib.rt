@@ -1,4 +1,6 @@
 // The house's verdict on what is shown.
+#![tactic(auto)]
+
 ghost use Rattle.showing.specs.Views.{shown_view};
 ghost use Rattle.std.specs.Prelude.{◌≡◌, IfOk};
 ghost use Rattle.verifier.specs.Laws.{LetThrough, Why, ThroughExactly, VerdictExactly, LineNoMore};

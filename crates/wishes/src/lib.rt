@@ -1,4 +1,6 @@
 // Wishes in bytes: read, asked for their range, written.
+#![tactic(auto)]
+
 ghost use Rattle.std.specs.Prelude.{◌≡◌, ◌<◌, true, ◌++◌, length, MatchOption};
 ghost use Rattle.numbers.specs.Lent.{WritesFront};
 ghost use Rattle.parts.specs.Limits.{in_range};

@@ -1,4 +1,6 @@
 // Lines and wishes in words at the edges of what can be: read, refused, printed.
+#![tactic(auto)]
+
 #[cfg(test)]
 mod tests {
     use std::alloc::{AllocError, Global};

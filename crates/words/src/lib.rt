@@ -5,6 +5,8 @@
 //
 // Numbers are decimal digits; zeros in front are read and never printed. Spaces, tabs and carriage returns part words, as
 // many as there are. `name` with no word is the empty name, and a wish may leave `name` off.
+#![tactic(auto)]
+
 ghost use Rattle.texts.specs.Cuts.{words_of};
 ghost use Rattle.words.specs.Lines.{limit_of, line_in};
 ghost use Rattle.words.specs.Means.{Told, WishTold};
