@@ -5,11 +5,11 @@ use mathlib.Core.List.{Memᴰ}
 pub use mathlib.Core.List.Memᴰ.{append_cases as in_either}
 pub use mathlib.Core.List.Memᴰ.{append_left as in_left}
 pub use mathlib.Core.List.Memᴰ.{append_right as in_right}
-pub use mathlib.Core.List.Memᴰ.{cases_cons as in-cons}
-pub use mathlib.Core.List.Memᴰ.{cast as in-same}
+pub use mathlib.Core.List.Memᴰ.{cases_cons as in_cons}
+pub use mathlib.Core.List.Memᴰ.{cast as in_same}
 pub use mathlib.Core.List.Memᴰ.{eq_of_singleton as in_one}
 pub use mathlib.Core.List.Memᴰ.{head as here}
-pub use mathlib.Core.List.Memᴰ.{not-nil as in-none}
+pub use mathlib.Core.List.Memᴰ.{not-nil as in_none}
 pub use mathlib.Core.List.Memᴰ.{tail as there}
 use Rattle.std.proofs.lemmas.Bool.{and_parts, and_from, or_cases, or_left, or_right, or_parts, false≢true, cases_Bool, cond-true, cond-false}
 
@@ -63,7 +63,7 @@ module _ {A : Type 0} {p : A → Bool} {f : List A → Bool} (a : IsAll p f) whe
 module _ {A B : Type 0} {r : A → List B} {f : List A → List B} (j : IsJoin r f) where
   -- what is in the join is in the row of an element
   pub join_in : (xs : List A) {b : B} → b ∈ f xs → (x : A) × (x ∈ xs) × (b ∈ r x)
-  join_in [] m = absurd (in-none (rw j.none at m))
+  join_in [] m = absurd (in_none (rw j.none at m))
   join_in (x ∷ xs) m = ⊎_elim (λ h. (x, here refl, h)) (λ h. let (y, n, k) = join_in xs h in (y, there n, k)) (in_either (r x) (rw (j.more x xs) at m))
 
   -- what is in the row of an element is in the join

@@ -27,10 +27,10 @@ unfolding gather
 gather_is f = record { none = refl; more = λ x xs. refl }
 
 pub any_in : {A : Type 0} (f : A → Bool) (xs : List A) → any f xs ≡ true → (x : A) × Memᴰ x xs × (f x ≡ true)
-any_in f = RowKinds.any-in (any_is f)
+any_in f = RowKinds.any_in (any_is f)
 
 pub any_from : {A : Type 0} (f : A → Bool) {x : A} {xs : List A} → Memᴰ x xs → f x ≡ true → any f xs ≡ true
-any_from f = RowKinds.in-any (any_is f)
+any_from f = RowKinds.in_any (any_is f)
 
 pub all_at : {A : Type 0} (f : A → Bool) {x : A} {xs : List A} → Memᴰ x xs → all f xs ≡ true → f x ≡ true
 all_at f = RowKinds.all_in (all_is f)
@@ -88,10 +88,10 @@ list_of_from : {A : Type 0} (o : Option A) (y : A) → o ≡ Some y → Memᴰ y
 list_of_from o y e = rw e (Memᴰ.head refl)
 
 pub gather_in : {A B : Type 0} (f : A → Option B) (xs : List A) (y : B) → Memᴰ y (gather f xs) → (x : A) × Memᴰ x xs × (f x ≡ Some y)
-gather_in f xs y m = let (x, i, j) = RowKinds.join-in (gather_is f) xs m in (x, i, list_of_in (f x) y j)
+gather_in f xs y m = let (x, i, j) = RowKinds.join_in (gather_is f) xs m in (x, i, list_of_in (f x) y j)
 
 pub gather_from : {A B : Type 0} (f : A → Option B) {x : A} {xs : List A} (y : B) → Memᴰ x xs → f x ≡ Some y → Memᴰ y (gather f xs)
-gather_from f {x} y m e = RowKinds.in-join (gather_is f) m (list_of_from (f x) y e)
+gather_from f {x} y m e = RowKinds.in_join (gather_is f) m (list_of_from (f x) y e)
 
 list_of_length : {A : Type 0} (o : Option A) → length (option_to_list o) ≤ 1
 list_of_length None = omega arith

@@ -5,9 +5,8 @@ ghost use Rattle.script.specs.Views.{numbered};
 ghost use Rattle.std.specs.Option.{option_map};
 
 use hmac::Mac;
-use script::Numbered;
+use script::{Numbered, Statement};
 use seeds::house_key;
-use statements::Statement;
 
 /// The house as far as it is played: its own key.
 #[derive(Clone, Copy)]
@@ -15,7 +14,7 @@ pub struct House {
     key: Mac,
 }
 
-/// Opens the house by the script's first statement; none where there is no statement, or another.
+/// Opens the house by the script's first statement; none where there is no statement.
 pub fn open(statements: &[Numbered]) -> Option<House>
     ensures { option_map key_of result ≡ opened (map numbered statements.now) }
 {
@@ -26,6 +25,5 @@ pub fn open(statements: &[Numbered]) -> Option<House>
         Statement::House(seed) => Some(House {
             key: house_key(seed.as_str()),
         }),
-        _ => None,
     }
 }

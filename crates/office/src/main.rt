@@ -17,18 +17,7 @@ use std::{env, io};
 const USAGE: &str = "usage: office < SCRIPT
 Plays a script, a statement a line; # begins a comment.
 
-    house SEED                            comes first: all keys are worked out from this word
-    key K to PERSON                       the house gives key K
-    ticket T = NUMBER: LINE; LINE to PERSON
-    yes Y = K: LIMIT; LIMIT by PERSON     made under key K; with no limits: yes Y = K: by PERSON
-    add X = OLD: LINE; LINE by PERSON     a ticket or a yes with lines added
-    tie Z = Y to T by PERSON
-    give X from PERSON to PERSON          X is the name of a thing, or key K
-    wish PERSON: WISH
-    show PERSON T Z Z ..: WISH            a ticket and tied yeses
-
-    LINE    museums M,M,..   days A-B   minutes A-B   persons N   name WORD   else K
-    WISH    museum M day D minute T persons N name WORD";
+    house SEED    all keys are worked out from this word";
 
 fn main(rt: HostRuntime) -> Result<(), Reason> {
     let end = run(&rt);

@@ -1,14 +1,10 @@
 -- A comment says nothing. Assumes nothing.
 use Rattle.std.proofs.Common.{◌≡◌, ℕ, ◌+◌, Bool, true, false, cond, eqb, List, [], ◌∷◌, ◌++◌, refl, ap, ◌∙◌, append-nil}
 use Rattle.std.specs.Str.Iter.{LacksByte}
-use Rattle.std.proofs.ByRecursion.{All-from_get_or}
 use Rattle.std.proofs.lemmas.Bool.{ne_eqb}
 use Rattle.script.specs.Laws.{AfterLine, CommentsAside}
-use Rattle.reading.specs.Forms.{said_in}
-use Rattle.statements.specs.Said.{Said}
-use Rattle.texts.specs.Cuts.{onto}
-use Rattle.texts.proofs.Cuts.{Free, parts_all, parts_cut}
-use Rattle.script.specs.Rules.{newline, uncommented, lines_in, Sense, none, says, stops, heard_as, alone, placed, sense, Outcome, some_of, outcome, reads}
+use Rattle.script.specs.Rules.{newline, gap, onto, parts, full, uncommented, words_in, lines_in, Said, Sense, none, says, stops, sense, Outcome, some_of, outcome, reads}
+use Rattle.script.proofs.Cuts.{parts_all, parts_cut}
 use Rattle.script.proofs.Lines.{after}
 
 -- lines that differ in no more than their comments
@@ -28,12 +24,9 @@ alike_onto b [] (m ∷ ms) h = absurd h
 alike_onto b (l ∷ ls) [] h = absurd h
 alike_onto b (l ∷ ls) (m ∷ ms) h = (ap (λ bs. cond (eqb b 35) [] (b ∷ bs)) h.0, h.1)
 
-free : (bs : List ℕ) → LacksByte 10 bs → Free newline bs
-free bs lacks = All-from_get_or (λ b. newline b ≡ false) bs 0 (λ k l. ne_eqb _ 10 (lacks k l))
-
 alike_lines : (front comment back : List ℕ) → LacksByte 10 comment → AfterLine back → Alike (lines_in (front ++ (35 ∷ (comment ++ back)))) (lines_in (front ++ back))
-alike_lines [] comment [] lacks ends = rw (append-nil comment, parts_all newline comment (free comment lacks)) (refl, tt)
-alike_lines [] comment (b ∷ back) lacks ends = rw (ends, parts_cut newline comment 10 back refl (free comment lacks)) (refl, alike_same (lines_in back))
+alike_lines [] comment [] lacks ends = rw (append-nil comment, parts_all newline comment (λ k l. ne_eqb _ 10 (lacks k l))) (refl, tt)
+alike_lines [] comment (b ∷ back) lacks ends = rw (ends, parts_cut newline comment 10 back refl (λ k l. ne_eqb _ 10 (lacks k l))) (refl, alike_same (lines_in back))
 alike_lines (b ∷ front) comment back lacks ends = first (newline b) _ _ (alike_lines front comment back lacks ends)
   where
     first : (t : Bool) (ls ms : List (List ℕ)) → Alike ls ms → Alike (cond t ([] ∷ ls) (onto b ls)) (cond t ([] ∷ ms) (onto b ms))
@@ -41,11 +34,11 @@ alike_lines (b ∷ front) comment back lacks ends = first (newline b) _ _ (alike
     first false ls ms h = alike_onto b ls ms h
 
 alike_outcome : (said : List (ℕ × Said)) (n : ℕ) (ls ms : List (List ℕ)) → Alike ls ms → outcome said n ls ≡ outcome said n ms
-unfolding alone
+unfolding words_in
 alike_outcome said n [] [] h = refl
 alike_outcome said n [] (m ∷ ms) h = absurd h
 alike_outcome said n (l ∷ ls) [] h = absurd h
-alike_outcome said n (l ∷ ls) (m ∷ ms) h = rest (sense (some_of said) l) (λ p. alike_outcome p (n + 1) ls ms h.1) ∙ ap (λ bs. after said n ms (placed (some_of said) (heard_as (said_in bs)))) h.0
+alike_outcome said n (l ∷ ls) (m ∷ ms) h = rest (sense (some_of said) (words_in l)) (λ p. alike_outcome p (n + 1) ls ms h.1) ∙ ap (λ bs. after said n ms (sense (some_of said) (full (parts gap bs)))) h.0
   where
     rest : (q : Sense) → ((p : List (ℕ × Said)) → outcome p (n + 1) ls ≡ outcome p (n + 1) ms) → after said n ls q ≡ after said n ms q
     rest none same = same said

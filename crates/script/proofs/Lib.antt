@@ -1,6 +1,5 @@
 pub mod Cuts
-pub mod Placing
+pub mod Senses
 pub mod Lines
 pub mod LineByLine
-pub mod HouseFirst
 pub mod Comments

@@ -1,20 +1,18 @@
 -- A script's statements, line by line. Assumes nothing.
-use Rattle.std.proofs.Common.{◌≡◌, ℕ, ◌+◌, ◌^◌, ◌<◌, Bool, true, false, not, eqb, List, [], ◌∷◌, ◌++◌, map, length, Some, None, refl, ap, ◌∙◌, arith, Bor}
+use Rattle.std.proofs.Common.{◌≡◌, ℕ, ◌+◌, ◌^◌, ◌<◌, Bool, true, false, not, eqb, List, [], ◌∷◌, ◌++◌, map, length, Some, None, Option, refl, ap, ◌∙◌, arith, Bor}
 use Rattle.std.specs.declared.iter.Enumerate.{Enumerate}
 use Rattle.std.specs.declared.str.Split.{Split}
-use Rattle.std.specs.Str.Pattern.{FindsChar}
+use Rattle.std.specs.Str.Pattern.{FindsBy, FindsChar}
 use Rattle.std.specs.Str.Iter.{split_text, split_has_more, split_pattern, split_steps}
 use Rattle.std.specs.Iterator.Adapters.{enumerate_source, enumerate_count}
 use Rattle.std.proofs.lemmas.List.{map_push}
-use Rattle.std.proofs.lemmas.Bool.{ne_eqb}
+use Rattle.std.proofs.lemmas.Bool.{eqb-true, ne_eqb}
 use Rattle.script.specs.declared.Cause.{Cause}
 use Rattle.script.specs.declared.Numbered.{Numbered}
 use Rattle.script.specs.declared.reading.Reading.{Reading}
-use Rattle.statements.specs.Said.{Said}
-use Rattle.statements.specs.Views.{stated}
-use Rattle.texts.proofs.Cuts.{to_come, took}
-use Rattle.script.specs.Rules.{newline, Sense, none, says, stops, sense, Outcome, some_of, outcome, reads}
-use Rattle.script.specs.Views.{meant, numbered}
+use Rattle.script.specs.Rules.{newline, words_in, Said, Sense, none, says, stops, sense, Outcome, some_of, outcome, reads}
+use Rattle.script.specs.Views.{stated, meant, numbered}
+use Rattle.script.proofs.Cuts.{to_come, took}
 
 -- what a line of number n and the lines ls after it come to, by what that line says
 abbrev pub after : List (ℕ × Said) → ℕ → List (List ℕ) → Sense → Outcome
@@ -23,6 +21,13 @@ after said n ls (says s) = outcome (said ++ (n, s) ∷ []) (n + 1) ls
 after said n ls (stops c) = record { said = said; stop = Some (record { line = n; cause = c }) }
 
 -- ---- the loop
+newline_ascii : (c : ℕ) → newline c ≡ true → c < 128
+newline_ascii c e = omega (arith, eqb-true c 10 e)
+
+finds_newline : (bs : List ℕ) (o : Option (ℕ × ℕ)) → FindsChar 10 bs o → FindsBy newline bs o
+finds_newline bs None f = f
+finds_newline bs (Some q) f = (f.0, (10, refl, f.1))
+
 some_so_far : (ns : List Numbered) (n : ℕ) → n ≡ length ns → not (eqb n 0) ≡ some_of (map numbered ns)
 some_so_far [] n e = rw e
 some_so_far (s ∷ ns) n e = ap not (ne_eqb n 0 (λ z. omega arith))
@@ -49,10 +54,10 @@ module _ {ns : List Numbered} {s : Enumerate (Split ℕ)} where
       same = step.0.1.0 ∙ old.cuts
 
       -- empty says whether no statement stands before, and r is what the line says
-      pub turn : (len : ℕ) (empty : Bool) (q r : Reading) → len ≡ length ns → empty ≡ eqb len 0 → q ≡ r → meant q ≡ sense (not empty) x.now → after (map numbered ns) (i + 1) (to_come newline (enumerate_source u)) (meant r) ≡ reads text
+      pub turn : (len : ℕ) (empty : Bool) (q r : Reading) → len ≡ length ns → empty ≡ eqb len 0 → q ≡ r → meant q ≡ sense (not empty) (words_in x.now) → after (map numbered ns) (i + 1) (to_come newline (enumerate_source u)) (meant r) ≡ reads text
       turn len empty q r e f g h =
-          let new = took 10 (omega arith) (enumerate_source s) (enumerate_source u) x old.cuts step.0 in
-          let at : meant r ≡ sense (some_of (map numbered ns)) x.now = rw (f, some_so_far ns len e, g) at h in
+          let new = took newline newline_ascii (enumerate_source s) (enumerate_source u) x.now (FindsChar 10) (finds_newline _) step.0.0 (rw old.cuts at step.0.1.1) in
+          let at : meant r ≡ sense (some_of (map numbered ns)) (words_in x.now) = rw (f, some_so_far ns len e, g) at h in
           rw (step.1, at) (rw new at old.rest)
 
       pub nothing_said : after (map numbered ns) (i + 1) (to_come newline (enumerate_source u)) none ≡ reads text → Sofar ns u text

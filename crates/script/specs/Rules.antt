@@ -1,14 +1,12 @@
 -- How a script's text is read, over its bytes. Assumes nothing.
-use Rattle.std.specs.Prelude.{ℕ, ◌+◌, Bool, true, false, cond, not, List, [], ◌∷◌, ◌++◌, Some, None, Ok, Err, Option, Result, ◌==◌}
-use Rattle.texts.specs.declared.Cause as text
-use Rattle.texts.specs.Cuts.{parts}
-use Rattle.reading.specs.Forms.{said_in}
-use Rattle.statements.specs.Said.{Said, house_of, key_to, ticket_to, yes_by, add_by, tie_by, given, wish_of, shown}
+use Rattle.std.specs.Prelude.{ℕ, ◌+◌, Bool, true, false, cond, List, [], ◌∷◌, ◌++◌, Some, None, codes, Option, ◌==◌}
+use Rattle.std.specs.Char.{char_set_contains}
+use Rattle.std.specs.Str.{bytes_eq}
 use Rattle.script.specs.declared.Cause.{Cause}
-use Rattle.script.specs.declared.Cause.TheVariants.{HouseFirst, Words}
+use Rattle.script.specs.declared.Cause.TheVariants.{UnknownWord, MissingWord, TooManyWords, LateHouse}
 use Rattle.script.specs.declared.Fault.{Fault}
 
--- ---- a text and its lines
+-- ---- a text, its lines, a line's words
 
 -- the byte that parts lines
 abbrev pub newline : ℕ → Bool
@@ -18,10 +16,30 @@ newline b = b == 10
 abbrev pub hash : ℕ → Bool
 hash b = b == 35
 
+-- a space, a tab or a carriage return
+abbrev pub gap : ℕ → Bool
+gap b = char_set_contains (32 ∷ 9 ∷ 13 ∷ []) b
+
+-- the byte in front of the first part
+abbrev pub onto : ℕ → List (List ℕ) → List (List ℕ)
+onto b [] = (b ∷ []) ∷ []
+onto b (p ∷ ps) = (b ∷ p) ∷ ps
+
+-- the parts of a text between the bytes that pass t, one more than there are such bytes
+abbrev pub parts : (ℕ → Bool) → List ℕ → List (List ℕ)
+parts t [] = [] ∷ []
+parts t (b ∷ bs) = cond (t b) ([] ∷ parts t bs) (onto b (parts t bs))
+
 -- what stands before the first byte that passes t
 abbrev pub before : (ℕ → Bool) → List ℕ → List ℕ
 before t [] = []
 before t (b ∷ bs) = cond (t b) [] (b ∷ before t bs)
+
+-- the parts that are not empty
+abbrev pub full : List (List ℕ) → List (List ℕ)
+full [] = []
+full ([] ∷ ps) = full ps
+full ((b ∷ p) ∷ ps) = (b ∷ p) ∷ full ps
 
 -- the lines of a text
 abbrev pub lines_in : List ℕ → List (List ℕ)
@@ -31,7 +49,15 @@ lines_in bs = parts newline bs
 abbrev pub uncommented : List ℕ → List ℕ
 uncommented bs = before hash bs
 
+-- the words of a line
+unfoldable pub words_in : List ℕ → List (List ℕ)
+words_in bs = full (parts gap (uncommented bs))
+
 -- ---- what a line says
+
+-- a statement, with its words as bytes
+pub data Said : Type 0 where
+  house_of : List ℕ → Said
 
 -- a line has no word, says something, or can't be read
 pub data Sense : Type 0 where
@@ -39,42 +65,17 @@ pub data Sense : Type 0 where
   says : Said → Sense
   stops : Cause → Sense
 
--- what was read of a line
-abbrev pub heard_as : Result (Option Said) text.Cause → Sense
-heard_as (Ok None) = none
-heard_as (Ok (Some s)) = says s
-heard_as (Err c) = stops (Words c)
+-- `house SEED`, of which ws are the words after `house`; begun says that a statement stands before it
+abbrev pub house_sense : Bool → List (List ℕ) → Sense
+house_sense true ws = stops LateHouse
+house_sense false [] = stops MissingWord
+house_sense false (seed ∷ []) = says (house_of seed)
+house_sense false (seed ∷ w ∷ ws) = stops TooManyWords
 
--- what a line says by itself
-unfoldable pub alone : List ℕ → Sense
-alone line = heard_as (said_in (uncommented line))
-
--- a statement that opens the house
-abbrev pub opens : Said → Bool
-opens (house_of seed) = true
-opens (key_to key person) = false
-opens (ticket_to name number lines person) = false
-opens (yes_by name key limits person) = false
-opens (add_by name old lines person) = false
-opens (tie_by name y ticket person) = false
-opens (given what from to) = false
-opens (wish_of person wish) = false
-opens (shown person ticket tied wish) = false
-
--- `house` after a statement, or another before it
-abbrev pub misplaced : Bool → Said → Bool
-misplaced true s = opens s
-misplaced false s = not (opens s)
-
--- the house is opened first, and only once
-abbrev pub placed : Bool → Sense → Sense
-placed begun none = none
-placed begun (says s) = cond (misplaced begun s) (stops HouseFirst) (says s)
-placed begun (stops c) = stops c
-
--- what a line says; begun says that a statement stands before it
-abbrev pub sense : Bool → List ℕ → Sense
-sense begun line = placed begun (alone line)
+-- what a line says, by its words
+unfoldable pub sense : Bool → List (List ℕ) → Sense
+sense begun [] = none
+sense begun (w ∷ ws) = cond (bytes_eq w (codes "house")) (house_sense begun ws) (stops UnknownWord)
 
 -- ---- what a script says
 
@@ -92,7 +93,7 @@ some_of (s ∷ ss) = true
 abbrev pub outcome : List (ℕ × Said) → ℕ → List (List ℕ) → Outcome
 outcome said n [] = record { said = said; stop = None }
 outcome said n (l ∷ ls) =
-    elim (sense (some_of said) l) [
+    elim (sense (some_of said) (words_in l)) [
       | none ↦ outcome said (n + 1) ls
       | says s ↦ outcome (said ++ (n, s) ∷ []) (n + 1) ls
       | stops c ↦ record { said = said; stop = Some (record { line = n; cause = c }) }

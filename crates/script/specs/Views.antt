@@ -1,12 +1,21 @@
 -- The code's values as the rules speak of them: a text is its bytes. Assumes nothing.
-use Rattle.std.specs.Prelude.{ℕ, List, map, vec_items}
-use Rattle.statements.specs.Said.{Said}
-use Rattle.statements.specs.Views.{stated}
+use Rattle.std.specs.Prelude.{ℕ, List, map, vec_items, string_bytes}
+use Rattle.std.specs.Borrow.{Bor}
 use Rattle.script.specs.declared.Numbered.{Numbered}
 use Rattle.script.specs.declared.Script.{Script}
+use Rattle.script.specs.declared.Statement.{Statement}
+use Rattle.script.specs.declared.Statement.TheVariants.{House}
 use Rattle.script.specs.declared.reading.Reading.{Reading}
 use Rattle.script.specs.declared.reading.Reading.TheVariants.{Nothing, Says, Unreadable}
-use Rattle.script.specs.Rules.{Sense, none, says, stops, Outcome}
+use Rattle.script.specs.Rules.{Said, house_of, Sense, none, says, stops, Outcome}
+
+-- words by their bytes
+abbrev pub bytes_of : List (Bor (List ℕ)) → List (List ℕ)
+bytes_of ws = map (λ w. w.now) ws
+
+-- what a statement says
+abbrev pub stated : Statement → Said
+stated (House seed) = house_of (string_bytes seed)
 
 -- what a reading says
 abbrev pub meant : Reading → Sense

@@ -4,15 +4,24 @@ ghost use Rattle.script.specs.Wording.{worded};
 
 use crate::Cause;
 use std::fmt;
-use std::fmt::Display;
+
+impl Cause {
+    fn wording(self) -> &'static str
+        ensures { result.now ≡ worded self }
+    {
+        match self {
+            Cause::UnknownWord => "unknown word",
+            Cause::MissingWord => "a word is missing",
+            Cause::TooManyWords => "too many words",
+            Cause::LateHouse => "house must come first",
+        }
+    }
+}
 
 impl fmt::Display for Cause {
     ghost output = { λ c. Some (worded c) };
 
     fn fmt<W: fmt::Write>(&self, f: &mut fmt::Formatter<W>) -> fmt::Result {
-        match self {
-            Cause::HouseFirst => f.write_str("house must come first"),
-            Cause::Words(cause) => cause.fmt(f),
-        }
+        f.write_str(self.wording())
     }
 }

@@ -1,20 +1,27 @@
 // The text of a script, read into numbered statements.
 //
-// A script has a statement a line, as the crate `statements` reads them; the first is `house`. `#` begins a comment, which
-// goes to the line's end. A line with no word says nothing, and is counted.
+// A script has a statement a line. `#` begins a comment, which goes to the line's end. Words are parted by spaces, tabs
+// and carriage returns. A line with no word says nothing, and is counted.
 #![tactic(auto)]
 
 ghost use Rattle.std.specs.Prelude.{◌≡◌, IfOk};
-ghost use Rattle.script.specs.Laws.{LineByLine, HouseOpensFirst, CommentsAside};
+ghost use Rattle.script.specs.Laws.{LineByLine, CommentsAside};
 ghost use Rattle.script.specs.Rules.{lines_in, reads};
 ghost use Rattle.script.specs.Views.{told};
 
 mod display;
 mod reading;
+mod words;
 
 use reading::{Reading, read_line};
-use statements::Statement;
 use std::alloc::{AllocError, Global};
+
+/// One thing that a script asks for, on a line of its own.
+#[derive(Drop)]
+pub enum Statement {
+    /// `house SEED` opens the house. All of its keys are worked out from the seed, a word, so that a script plays the same each time.
+    House(String),
+}
 
 /// A statement and the number of its line. Lines are numbered from 1.
 #[derive(Drop)]
@@ -26,10 +33,12 @@ pub struct Numbered {
 /// Why a line can't be read.
 #[derive(Clone, Copy)]
 pub enum Cause {
-    /// `house` stands after another statement or a second time, or another statement stands before it.
-    HouseFirst,
-    /// The statement's words.
-    Words(words::Cause),
+    /// No statement begins with the line's first word.
+    UnknownWord,
+    MissingWord,
+    TooManyWords,
+    /// `house` stands after another statement, or a second time.
+    LateHouse,
 }
 
 /// A line that can't be read.
@@ -49,12 +58,10 @@ pub struct Script {
 /// Reads any text whatever; only want of memory is an error.
 ///
 /// `line_by_line`: the statements are those of the lines before the fault, each read by itself, and each of these lines can
-/// be read. `house_first`: the first statement opens the house, and no other does. `comments_aside`: without a comment the
-/// script reads the same.
+/// be read. `comments_aside`: without a comment the script reads the same.
 pub fn read_script(heap: Global, text: &str) -> Result<Script, AllocError>
     ensures rules { IfOk result (λ s. told s ≡ reads text.now) }
     ensures line_by_line { IfOk result (λ s. LineByLine (lines_in text.now) (told s)) }
-    ensures house_first { IfOk result (λ s. HouseOpensFirst (told s).said) }
     ensures comments_aside { IfOk result (λ s. CommentsAside text.now (told s)) }
 {
     let mut statements = Vec::new(heap);

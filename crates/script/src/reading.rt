@@ -1,12 +1,10 @@
-// What one line says.
+// What the words of one line say.
 ghost use Rattle.std.specs.Prelude.{◌≡◌, IfOk};
-ghost use Rattle.script.specs.Rules.{uncommented, opens, sense};
-ghost use Rattle.script.specs.Views.{meant};
-ghost use Rattle.statements.specs.Views.{stated};
+ghost use Rattle.script.specs.Rules.{words_in, sense, house_sense};
+ghost use Rattle.script.specs.Views.{bytes_of, meant};
 
-use crate::Cause;
-use reading::read_statement;
-use statements::{Statement, Trouble};
+use crate::words::words_of;
+use crate::{Cause, Statement};
 use std::alloc::{AllocError, Global};
 
 /// What a line comes to.
@@ -19,33 +17,35 @@ pub enum Reading {
 
 /// `begun` says that a statement stands before this line.
 pub fn read_line(heap: Global, line: &str, begun: bool) -> Result<Reading, AllocError>
-    ensures { IfOk result (λ s. meant s ≡ sense begun line.now) }
+    ensures { IfOk result (λ s. meant s ≡ sense begun (words_in line.now)) }
 {
-    match read_statement(heap, code_of(line)) {
-        Ok(None) => Ok(Reading::Nothing),
-        Ok(Some(statement)) => {
-            if opens_house(&statement) == begun {
-                return Ok(Reading::Unreadable(Cause::HouseFirst));
-            }
-            Ok(Reading::Says(statement))
-        }
-        Err(Trouble::Unreadable(cause)) => Ok(Reading::Unreadable(Cause::Words(cause))),
-        Err(Trouble::NoMemory) => Err(AllocError),
+    let words = words_of(heap, line)?;
+    read_words(heap, words.as_slice(), begun)
+}
+
+// The first word says which statement it is.
+fn read_words(heap: Global, words: &[&str], begun: bool) -> Result<Reading, AllocError>
+    ensures { IfOk result (λ s. meant s ≡ sense begun (bytes_of words.now)) }
+{
+    let [first, rest @ ..] = words else {
+        return Ok(Reading::Nothing);
+    };
+    match *first {
+        "house" => read_house(heap, rest, begun),
+        _ => Ok(Reading::Unreadable(Cause::UnknownWord)),
     }
 }
 
-fn opens_house(statement: &Statement) -> bool
-    ensures { result ≡ opens (stated statement.now) }
+// `house SEED`, of which `words` are those after `house`.
+fn read_house(heap: Global, words: &[&str], begun: bool) -> Result<Reading, AllocError>
+    ensures { IfOk result (λ s. meant s ≡ house_sense begun (bytes_of words.now)) }
 {
-    matches!(statement, Statement::House(_))
-}
-
-// What stands before the comment, if there is one.
-fn code_of(line: &str) -> &str
-    ensures { result.now ≡ uncommented line.now }
-{
-    match line.split_once('#') {
-        Some((code, _)) => code,
-        None => line,
+    if begun {
+        return Ok(Reading::Unreadable(Cause::LateHouse));
+    }
+    match words {
+        [] => Ok(Reading::Unreadable(Cause::MissingWord)),
+        [seed] => Ok(Reading::Says(Statement::House(String::from_str(heap, seed)?))),
+        _ => Ok(Reading::Unreadable(Cause::TooManyWords)),
     }
 }

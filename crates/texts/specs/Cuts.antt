@@ -3,7 +3,7 @@ use Rattle.std.specs.Prelude.{ℕ, Bool, cond, List, [], ◌∷◌, Some, None, 
 use Rattle.std.specs.Char.{char_set_contains}
 use Rattle.std.specs.Option.{option_map}
 use Rattle.texts.specs.declared.Cause.{Cause}
-use Rattle.texts.specs.declared.Cause.TheVariants.{MissingWord, TooManyWords, NoColon}
+use Rattle.texts.specs.declared.Cause.TheVariants.{MissingWord, TooManyWords}
 
 -- ---- parts
 
@@ -57,7 +57,7 @@ or_else c (Some x) = Ok x
 
 -- head and tail: what stands before the first colon, and after it
 unfoldable pub head_tail : List ℕ → Result (List ℕ × List ℕ) Cause
-head_tail text = or_else NoColon (at_first colon text)
+head_tail text = or_else MissingWord (at_first colon text)
 
 -- ---- words
 

@@ -1,14 +1,13 @@
 -- A cause in plain words. Assumes nothing.
 use Rattle.std.specs.Prelude.{ℕ, List, codes}
 use Rattle.texts.specs.declared.Cause.{Cause}
-use Rattle.texts.specs.declared.Cause.TheVariants.{UnknownWord, MissingWord, TooManyWords, NoColon, NotANumber, TooLarge, NoSuchMuseum, TooManyMuseums, NoSuchKey, NotASpan, Backward, BadLetter, LongName}
+use Rattle.texts.specs.declared.Cause.TheVariants.{UnknownWord, MissingWord, TooManyWords, NotANumber, TooLarge, NoSuchMuseum, TooManyMuseums, NoSuchKey, NotASpan, Backward, BadLetter, LongName}
 
 -- a cause in plain words
 abbrev pub worded : Cause → List ℕ
 worded UnknownWord = codes "unknown word"
 worded MissingWord = codes "a word is missing"
 worded TooManyWords = codes "too many words"
-worded NoColon = codes "a colon is missing"
 worded NotANumber = codes "not a number"
 worded TooLarge = codes "the number is too large"
 worded NoSuchMuseum = codes "museums have numbers from 1 to 200"

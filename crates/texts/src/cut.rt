@@ -65,6 +65,6 @@ pub fn head_and_tail(text: &str) -> Result<(&str, &str), Cause>
 {
     match text.split_once(':') {
         Some(parts) => Ok(parts),
-        None => Err(Cause::NoColon),
+        None => Err(Cause::MissingWord),
     }
 }

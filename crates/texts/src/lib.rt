@@ -20,8 +20,6 @@ pub enum Cause {
     UnknownWord,
     MissingWord,
     TooManyWords,
-    /// No `:` parts what a statement is about from what it says.
-    NoColon,
     /// Not just decimal digits.
     NotANumber,
     /// More than the number's place can hold.

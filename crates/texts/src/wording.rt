@@ -13,7 +13,6 @@ impl Cause {
             Cause::UnknownWord => "unknown word",
             Cause::MissingWord => "a word is missing",
             Cause::TooManyWords => "too many words",
-            Cause::NoColon => "a colon is missing",
             Cause::NotANumber => "not a number",
             Cause::TooLarge => "the number is too large",
             Cause::NoSuchMuseum => "museums have numbers from 1 to 200",

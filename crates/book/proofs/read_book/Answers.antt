@@ -14,67 +14,67 @@ use Rattle.book.proofs.Books.{not_read, more_left, all_read, other_kind, no_hous
 use Rattle.book.proofs.Keyed.{new_key_only, done_reading}
 use Rattle.book.proofs.read_book.Goals as goal
 
-pub returns-in-err-read-kind : goal.returns-in-err-read-kind
-returns-in-err-read-kind c =
-    let p = err_from_is_err_and c.from-residual.result c.from-residual.ensures.1 in
-    let q = c.in-err-read-kind.ensures in
+pub returns-in_err-read_kind : goal.returns-in_err-read_kind
+returns-in_err-read_kind c =
+    let p = err_from_is_err_and c.from_residual.result c.from_residual.ensures.1 in
+    let q = c.in_err-read_kind.ensures in
     rw (p.1, p.2) (not_read c.args.bytes.now Shape (other_kind c.args.bytes.now (λ rest e. q.1 rest (c.new-reader.ensures ∙ e))) ∙ ap Err (sym q.0))
 
-pub returns-in-err-house : goal.returns-in-err-house
-returns-in-err-house c =
-    let p = err_from_is_err_and c.from-residual-in-err-house.result c.from-residual-in-err-house.ensures.1 in
-    let kind = sym c.new-reader.ensures ∙ c.in-ok-read-kind.ensures in
-    rw (p.1, p.2) (not_read c.args.bytes.now _ (no_house c.args.bytes.now _ kind _ c.in-err-house.ensures))
+pub returns-in_err-house : goal.returns-in_err-house
+returns-in_err-house c =
+    let p = err_from_is_err_and c.from_residual-in_err-house.result c.from_residual-in_err-house.ensures.1 in
+    let kind = sym c.new-reader.ensures ∙ c.in_ok-read_kind.ensures in
+    rw (p.1, p.2) (not_read c.args.bytes.now _ (no_house c.args.bytes.now _ kind _ c.in_err-house.ensures))
 
-pub returns-in-default : goal.returns-in-default
-returns-in-default c =
-    let kind = sym c.new-reader.ensures ∙ c.in-ok-read-kind.ensures in
-    not_read c.args.bytes.now Shape (no_count c.args.bytes.now _ kind _ _ c.in-ok-house.ensures Shape (two_byte_short c.read-mac.new.reader.rest.now c.in-default.ensures.0))
+pub returns-in_default : goal.returns-in_default
+returns-in_default c =
+    let kind = sym c.new-reader.ensures ∙ c.in_ok-read_kind.ensures in
+    not_read c.args.bytes.now Shape (no_count c.args.bytes.now _ kind _ _ c.in_ok-house.ensures Shape (two_byte_short c.read_mac.new.reader.rest.now c.in_default.ensures.0))
 
-pub returns-in-err-key : goal.returns-in-err-key
-returns-in-err-key c =
-    let p = err_from_is_err_and c.from-residual-in-err-key.result c.from-residual-in-err-key.ensures.1 in
-    let kind = sym c.new-reader.ensures ∙ c.in-ok-read-kind.ensures in
+pub returns-in_err-key : goal.returns-in_err-key
+returns-in_err-key c =
+    let p = err_from_is_err_and c.from_residual-in_err-key.result c.from_residual-in_err-key.ensures.1 in
+    let kind = sym c.new-reader.ensures ∙ c.in_ok-read_kind.ensures in
     let many = ap two_byte.read c.in-Some.ensures ∙ two_byte_join c.in-Some.count c.two.new.self.rest.now in
-    let none = ap (λ (b : BookView). b.keys) c.in-ok-book.ensures in
+    let none = ap (λ (b : BookView). b.keys) c.in_ok-book.ensures in
     let run = ap (λ (ks : List KeyView). keys_from c.in-Some.count ks c.two.new.self.rest.now) (sym none) ∙ c.loop.invariant.1 in
     let left = c.in-Some.count - c.loop.counter in
-    let stop = keys_stop left (keys_view (vec_items c.loop.book.keys)) c.loop.reader.rest.now (omega (arith, c.loop-test.true)) _ c.in-err-key.ensures in
-    rw (p.1, p.2) (not_read c.args.bytes.now _ (faulty_keys c.args.bytes.now _ kind _ _ c.in-ok-house.ensures _ _ many _ (run ∙ stop)))
+    let stop = keys_stop left (keys_view (vec_items c.loop.book.keys)) c.loop.reader.rest.now (omega (arith, c.loop-test.true)) _ c.in_err-key.ensures in
+    rw (p.1, p.2) (not_read c.args.bytes.now _ (faulty_keys c.args.bytes.now _ kind _ _ c.in_ok-house.ensures _ _ many _ (run ∙ stop)))
 
 pub put-requires : goal.put-requires
-put-requires c = (new_key_only (keys_view (vec_items c.loop.book.keys)) (key_view c.in-ok-key.key) _ _ c.in-ok-key.ensures).0
+put-requires c = (new_key_only (keys_view (vec_items c.loop.book.keys)) (key_view c.in_ok-key.key) _ _ c.in_ok-key.ensures).0
 
 pub loop-preserved : goal.loop-preserved
 loop-preserved c =
     let ks = keys_view (vec_items c.loop.book.keys) in
     let left = c.in-Some.count - c.loop.counter in
     let one : left - 1 ≡ c.in-Some.count - (c.loop.counter + 1) = omega arith in
-    let longer : keys_view (vec_items c.put.new.self.keys) ≡ ks ++ key_view c.in-ok-key.key ∷ [] = ap (λ (b : BookView). b.keys) c.in-ok-put.ensures in (
-      ap (λ (b : BookView). b.house) c.in-ok-put.ensures ∙ c.loop.invariant.0,
+    let longer : keys_view (vec_items c.put.new.self.keys) ≡ ks ++ key_view c.in_ok-key.key ∷ [] = ap (λ (b : BookView). b.keys) c.in_ok-put.ensures in (
+      ap (λ (b : BookView). b.house) c.in_ok-put.ensures ∙ c.loop.invariant.0,
       c.loop.invariant.1 ∙
-          (keys_on left ks c.loop.reader.rest.now (omega (arith, c.loop-test.true)) (key_view c.in-ok-key.key) _ c.in-ok-key.ensures ∙
-          λ i. keys_from (one i) (sym longer i) c.read-key.new.reader.rest.now),
+          (keys_on left ks c.loop.reader.rest.now (omega (arith, c.loop-test.true)) (key_view c.in_ok-key.key) _ c.in_ok-key.ensures ∙
+          λ i. keys_from (one i) (sym longer i) c.read_key.new.reader.rest.now),
     )
 
-pub returns-then-not-is-empty : goal.returns-then-not-is-empty
-returns-then-not-is-empty c =
-    let kind = sym c.new-reader.ensures ∙ c.in-ok-read-kind.ensures in
+pub returns-then-not-is_empty : goal.returns-then-not-is_empty
+returns-then-not-is_empty c =
+    let kind = sym c.new-reader.ensures ∙ c.in_ok-read_kind.ensures in
     let many = ap two_byte.read c.in-Some.ensures ∙ two_byte_join c.in-Some.count c.two.new.self.rest.now in
-    let none = ap (λ (b : BookView). b.keys) c.in-ok-book.ensures in
+    let none = ap (λ (b : BookView). b.keys) c.in_ok-book.ensures in
     let run = ap (λ (ks : List KeyView). keys_from c.in-Some.count ks c.two.new.self.rest.now) (sym none) ∙ c.loop.invariant.1 in
     let done = done_reading (c.in-Some.count - c.loop.counter) (keys_view (vec_items c.loop.book.keys)) c.loop.reader.rest.now (omega (arith, c.loop-test.false)) in
-    more_left c.args.bytes.now _ _ (keys_read c.args.bytes.now _ kind _ _ c.in-ok-house.ensures _ _ many _ _ (run ∙ done))
-    (λ e. eqb-false _ _ (sym c.if-not-is-empty.ensures) (ap length e))
+    more_left c.args.bytes.now _ _ (keys_read c.args.bytes.now _ kind _ _ c.in_ok-house.ensures _ _ many _ _ (run ∙ done))
+    (λ e. eqb-false _ _ (sym c.if-not-is_empty.ensures) (ap length e))
 
 pub returns : goal.returns
 returns c =
-    let kind = sym c.new-reader.ensures ∙ c.in-ok-read-kind.ensures in
+    let kind = sym c.new-reader.ensures ∙ c.in_ok-read_kind.ensures in
     let many = ap two_byte.read c.in-Some.ensures ∙ two_byte_join c.in-Some.count c.two.new.self.rest.now in
-    let none = ap (λ (b : BookView). b.keys) c.in-ok-book.ensures in
+    let none = ap (λ (b : BookView). b.keys) c.in_ok-book.ensures in
     let run = ap (λ (ks : List KeyView). keys_from c.in-Some.count ks c.two.new.self.rest.now) (sym none) ∙ c.loop.invariant.1 in
     let done = done_reading (c.in-Some.count - c.loop.counter) (keys_view (vec_items c.loop.book.keys)) c.loop.reader.rest.now (omega (arith, c.loop-test.false)) in
-    let house = c.loop.invariant.0 ∙ ap (λ (b : BookView). b.house) c.in-ok-book.ensures in
-    all_read c.args.bytes.now _ _ (keys_read c.args.bytes.now _ kind _ _ c.in-ok-house.ensures _ _ many _ _ (run ∙ done))
-    (nil_from_length c.loop.reader.rest.now (eqb-true _ _ (sym c.if-not-is-empty.ensures))) ∙
+    let house = c.loop.invariant.0 ∙ ap (λ (b : BookView). b.house) c.in_ok-book.ensures in
+    all_read c.args.bytes.now _ _ (keys_read c.args.bytes.now _ kind _ _ c.in_ok-house.ensures _ _ many _ _ (run ∙ done))
+    (nil_from_length c.loop.reader.rest.now (eqb-true _ _ (sym c.if-not-is_empty.ensures))) ∙
     ap (λ (b : Bytes). Ok (record { house = b; keys = keys_view (vec_items c.loop.book.keys) })) (sym house)

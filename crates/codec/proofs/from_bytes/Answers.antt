@@ -10,5 +10,5 @@ none (b ∷ bs) h = absurd (omega arith)
 
 pub returns : goal.returns
 returns g c =
-    subst₂ (λ (bs rest : Bytes). g.T.Coded.reads bs c.in-ok-value.value rest) c.new-reader.ensures
-    (none _ (eqb-true _ _ (sym c.if-not-is-empty.ensures))) c.in-ok-value.ensures
+    subst₂ (λ (bs rest : Bytes). g.T.Coded.reads bs c.in_ok-value.value rest) c.new-reader.ensures
+    (none _ (eqb-true _ _ (sym c.if-not-is_empty.ensures))) c.in_ok-value.ensures

@@ -5,5 +5,5 @@ use Rattle.hmac4.proofs.key_row.Goals as goal
 
 pub returns : goal.returns
 returns c =
-    let n : length c.from-bytes.result ≡ 8 = search rules in
-    ap (λ x. x ++ replicate 8 0) (eight_is c.from-bytes.result n ∙ c.from-bytes.ensures ∙ ap (words 8) c.bytes.ensures)
+    let n : length c.from_bytes.result ≡ 8 = search rules in
+    ap (λ x. x ++ replicate 8 0) (eight_is c.from_bytes.result n ∙ c.from_bytes.ensures ∙ ap (words 8) c.bytes.ensures)

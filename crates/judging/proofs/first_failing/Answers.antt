@@ -13,7 +13,7 @@ returns-after-lines c =
     c.lines.invariant.0 ∙
     sym (first_none _ (rows c.args.ticket.now.lines) [] (λ j h. c.lines.invariant.1 j (omega (arith, c.len-i-end.ensures.value, c.lines-test.false))))
 
-pub returns-then-line-fails : goal.returns-then-line-fails
-returns-then-line-fails c =
+pub returns-then-line_fails : goal.returns-then-line_fails
+returns-then-line_fails c =
     sym (first_at _ (rows c.args.ticket.now.lines) c.lines.i [] c.in-Some.ensures.0 c.lines.invariant.1
-    (ap (fails (says (wish_view c.args.wish)) (bodies c.args.yeses.now) c.args.ask) (sym c.in-Some.ensures.1) ∙ sym c.if-line-fails.ensures))
+    (ap (fails (says (wish_view c.args.wish)) (bodies c.args.yeses.now) c.args.ask) (sym c.in-Some.ensures.1) ∙ sym c.if-line_fails.ensures))

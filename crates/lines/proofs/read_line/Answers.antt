@@ -21,27 +21,27 @@ Both bs r = record { value : r ≡ line_of bs; told : Tells bs r }
 both : (bs : List ℕ) (r : Result LineView Fault) → AreBytes bs → r ≡ line_of bs → Both bs r
 both bs r bytes e = record { value = e; told = subst (Tells bs) (sym e) (told bs bytes) }
 
-pub returns-in-default : goal.returns-in-default
-returns-in-default c = both c.args.bytes.now _ (λ i. omega (arith, c.type-inv.bytes i)) (no_line c.args.bytes.now (search rules))
+pub returns-in_default : goal.returns-in_default
+returns-in_default c = both c.args.bytes.now _ (λ i. omega (arith, c.type_inv.bytes i)) (no_line c.args.bytes.now (search rules))
 
-pub returns-in-default-read-key : goal.returns-in-default-read-key
-returns-in-default-read-key c =
-    both c.args.bytes.now _ (λ i. omega (arith, c.type-inv.bytes i))
-    (not_else (get_or c.args.bytes.now 0 0) _ c.if-kind-eq-ELSE-KIND.true c.in-default-read-key.ensures
+pub returns-in_default-read_key : goal.returns-in_default-read_key
+returns-in_default-read_key c =
+    both c.args.bytes.now _ (λ i. omega (arith, c.type_inv.bytes i))
+    (not_else (get_or c.args.bytes.now 0 0) _ c.if-kind-eq-ELSE_KIND.true c.in_default-read_key.ensures
     ∙ kind_first c.args.bytes.now (search rules))
 
-pub returns-then-kind-eq-ELSE-KIND : goal.returns-then-kind-eq-ELSE-KIND
-returns-then-kind-eq-ELSE-KIND c =
-    both c.args.bytes.now _ (λ i. omega (arith, c.type-inv.bytes i))
-    (else_line (get_or c.args.bytes.now 0 0) _ c.in-Some.key.number c.if-kind-eq-ELSE-KIND.true c.in-Some.key.known c.in-Some.ensures
+pub returns-then-kind-eq-ELSE_KIND : goal.returns-then-kind-eq-ELSE_KIND
+returns-then-kind-eq-ELSE_KIND c =
+    both c.args.bytes.now _ (λ i. omega (arith, c.type_inv.bytes i))
+    (else_line (get_or c.args.bytes.now 0 0) _ c.in-Some.key.number c.if-kind-eq-ELSE_KIND.true c.in-Some.key.known c.in-Some.ensures
     ∙ kind_first c.args.bytes.now (search rules))
 
 pub returns : goal.returns
 returns c =
-    both c.args.bytes.now _ (λ i. omega (arith, c.type-inv.bytes i)) (c.in-ok-limit.ensures ∙ kind_first c.args.bytes.now (search rules))
+    both c.args.bytes.now _ (λ i. omega (arith, c.type_inv.bytes i)) (c.in_ok-limit.ensures ∙ kind_first c.args.bytes.now (search rules))
 
-pub returns-in-err-limit : goal.returns-in-err-limit
-returns-in-err-limit c =
-    let p = err_from_is_err_and c.from-residual.result c.from-residual.ensures.1 in
+pub returns-in_err-limit : goal.returns-in_err-limit
+returns-in_err-limit c =
+    let p = err_from_is_err_and c.from_residual.result c.from_residual.ensures.1 in
     rw (p.1, p.2)
-    (both c.args.bytes.now _ (λ i. omega (arith, c.type-inv.bytes i)) (c.in-err-limit.ensures ∙ kind_first c.args.bytes.now (search rules)))
+    (both c.args.bytes.now _ (λ i. omega (arith, c.type_inv.bytes i)) (c.in_err-limit.ensures ∙ kind_first c.args.bytes.now (search rules)))

@@ -7,18 +7,18 @@ use Rattle.statements.proofs.Chains.{stops, hands_on}
 use Rattle.making.specs.Forms.{ticket_said}
 use Rattle.making.proofs.read_ticket.Goals as goal
 
-pub returns-in-err-parts : goal.returns-in-err-parts
+pub returns-in_err-parts : goal.returns-in_err-parts
 unfolding ticket_said
-returns-in-err-parts c = stops stated c.from-residual.result c.from-residual.ensures.1 (no _ c.in-err-parts.ensures)
+returns-in_err-parts c = stops stated c.from_residual.result c.from_residual.ensures.1 (no _ c.in_err-parts.ensures)
 
-pub returns-in-err-number : goal.returns-in-err-number
+pub returns-in_err-number : goal.returns-in_err-number
 unfolding ticket_said
-returns-in-err-number c = stops stated c.from-residual-in-err-number.result c.from-residual-in-err-number.ensures.1 (so _ c.in-ok-parts.ensures (no _ c.in-err-number.ensures))
+returns-in_err-number c = stops stated c.from_residual-in_err-number.result c.from_residual-in_err-number.ensures.1 (so _ c.in_ok-parts.ensures (no _ c.in_err-number.ensures))
 
-pub returns-in-err-lines : goal.returns-in-err-lines
+pub returns-in_err-lines : goal.returns-in_err-lines
 unfolding ticket_said
-returns-in-err-lines c = hands_on stated c.from-residual-in-err-lines.result lines_view (lines_in c.in-ok-parts.parts.front.now) _ c.from-residual-in-err-lines.ensures.1 c.in-err-lines.ensures (λ k h. so _ c.in-ok-parts.ensures (so _ c.in-ok-number.ensures (last_no _ h)))
+returns-in_err-lines c = hands_on stated c.from_residual-in_err-lines.result lines_view (lines_in c.in_ok-parts.parts.front.now) _ c.from_residual-in_err-lines.ensures.1 c.in_err-lines.ensures (λ k h. so _ c.in_ok-parts.ensures (so _ c.in_ok-number.ensures (last_no _ h)))
 
 pub returns : goal.returns
 unfolding ticket_said
-returns c = so _ c.in-ok-parts.ensures (so _ c.in-ok-number.ensures ((λ i. Ok (ticket_to (c.in-ok-name.ensures.0 i) c.in-ok-number.number (lines_view c.in-ok-lines.lines) (c.in-ok-name.ensures.1 i))) ∙ last_so _ c.in-ok-lines.ensures))
+returns c = so _ c.in_ok-parts.ensures (so _ c.in_ok-number.ensures ((λ i. Ok (ticket_to (c.in_ok-name.ensures.0 i) c.in_ok-number.number (lines_view c.in_ok-lines.lines) (c.in_ok-name.ensures.1 i))) ∙ last_so _ c.in_ok-lines.ensures))

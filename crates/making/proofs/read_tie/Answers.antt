@@ -6,18 +6,18 @@ use Rattle.statements.proofs.Chains.{stops}
 use Rattle.making.specs.Forms.{tie_said}
 use Rattle.making.proofs.read_tie.Goals as goal
 
-pub returns-in-err-name : goal.returns-in-err-name
+pub returns-in_err-name : goal.returns-in_err-name
 unfolding tie_said
-returns-in-err-name c = stops stated c.from-residual.result c.from-residual.ensures.1 (no _ c.in-err-name.ensures)
+returns-in_err-name c = stops stated c.from_residual.result c.from_residual.ensures.1 (no _ c.in_err-name.ensures)
 
-pub returns-in-err-yes : goal.returns-in-err-yes
+pub returns-in_err-yes : goal.returns-in_err-yes
 unfolding tie_said
-returns-in-err-yes c = stops stated c.from-residual-in-err-yes.result c.from-residual-in-err-yes.ensures.1 (so _ c.in-ok-name.ensures (no _ c.in-err-yes.ensures))
+returns-in_err-yes c = stops stated c.from_residual-in_err-yes.result c.from_residual-in_err-yes.ensures.1 (so _ c.in_ok-name.ensures (no _ c.in_err-yes.ensures))
 
-pub returns-in-err-ticket : goal.returns-in-err-ticket
+pub returns-in_err-ticket : goal.returns-in_err-ticket
 unfolding tie_said
-returns-in-err-ticket c = stops stated c.from-residual-in-err-ticket.result c.from-residual-in-err-ticket.ensures.1 (so _ c.in-ok-name.ensures (so _ c.in-ok-yes.ensures (last_no _ c.in-err-ticket.ensures)))
+returns-in_err-ticket c = stops stated c.from_residual-in_err-ticket.result c.from_residual-in_err-ticket.ensures.1 (so _ c.in_ok-name.ensures (so _ c.in_ok-yes.ensures (last_no _ c.in_err-ticket.ensures)))
 
 pub returns : goal.returns
 unfolding tie_said
-returns c = so _ c.in-ok-name.ensures (so _ c.in-ok-yes.ensures ((λ i. Ok (tie_by (c.in-ok-name-2.ensures.0 i) (c.in-ok-name-2.ensures.1 i) (c.in-ok-ticket-2.ensures.0 i) (c.in-ok-ticket-2.ensures.1 i))) ∙ last_so _ c.in-ok-ticket.ensures))
+returns c = so _ c.in_ok-name.ensures (so _ c.in_ok-yes.ensures ((λ i. Ok (tie_by (c.in_ok-name-2.ensures.0 i) (c.in_ok-name-2.ensures.1 i) (c.in_ok-ticket-2.ensures.0 i) (c.in_ok-ticket-2.ensures.1 i))) ∙ last_so _ c.in_ok-ticket.ensures))

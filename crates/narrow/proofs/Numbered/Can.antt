@@ -4,7 +4,7 @@ use Rattle.std.proofs.Common.{◌≡◌, ℕ, Bool, true, false, cond, ◌||◌,
 use Rattle.std.proofs.lemmas.Bool.{and_parts, and_from, or_cases, or_left, or_right, eqb-true, eq-eqb, cases_Bool, false≢true}
 use Rattle.narrow.specs.Numbered.Term.{Line, Limit, Else}
 use Rattle.narrow.specs.Numbered.Ticket.{Holds, Ticket, YesWord, Shown, Given, all_hold, has_yes, is_in, same_ticket, tied_yes, any_made_of, tied_tickets, can}
-use Rattle.narrow.proofs.RowKinds.{◌∈◌, here, in_either, in_left, in_right, in-none, in_one, in-same, IsAny, any_in, in_any, all_in, in_all, join_in, in_join}
+use Rattle.narrow.proofs.RowKinds.{◌∈◌, here, in_either, in_left, in_right, in_none, in_one, in_same, IsAny, any_in, in_any, all_in, in_all, join_in, in_join}
 use Rattle.narrow.proofs.Numbered.Kinds.{serves, meets, may_yes, tried, all_hold_all, has_yes_any, tied_yes_any, lines_can_all, any_can_any, is_in_any, any_made_of_any, tied_tickets_join}
 use Rattle.narrow.proofs.Numbered.Same.{Extends, Narrows, same_ticket_lem, ticket_same, made_extends, extends_made}
 
@@ -34,7 +34,7 @@ tied_to_any t = record { none = refl; more = λ x xs. refl }
 -- what is in a row of one or none is that one
 in_cond : {A : Type 0} (b : Bool) (x : A) {a : A} → a ∈ cond b (x ∷ []) [] → (a ≡ x) × (b ≡ true)
 in_cond true x m = (in_one m, refl)
-in_cond false x m = absurd (in-none m)
+in_cond false x m = absurd (in_none m)
 
 -- a yes serves without its latest limits too
 pub serves_less : (h : Holds) (q k : ℕ) (y z : YesWord) → Narrows y z → serves h q k y ≡ true → serves h q k z ≡ true
@@ -48,7 +48,7 @@ module _ (h : Holds) (q : ℕ) (g : Given) where
   may t k e = ⊎_elim key (λ r. ⊎_elim yes' tied (or_cases (has_yes h q k g.yeses) (tied_yes h q k t g.tied) r)) (or_cases (is_in k g.keys) (has_yes h q k g.yeses || tied_yes h q k t g.tied) e)
     where
       key : is_in k g.keys ≡ true → May h q g t k
-      key e = let (x, m, p) = any_in (is_in_any k) g.keys e in by_key (in-same (sym (eqb-true x k p)) m)
+      key e = let (x, m, p) = any_in (is_in_any k) g.keys e in by_key (in_same (sym (eqb-true x k p)) m)
 
       yes' : has_yes h q k g.yeses ≡ true → May h q g t k
       yes' e = let (y, m, s) = any_in (has_yes_any h q k) g.yeses e in by_yes y m s

@@ -4,7 +4,7 @@ use Rattle.std.proofs.Common.{◌≡◌, ℕ, true, eqb, sym, refl, ⊎_elim}
 use Rattle.std.proofs.lemmas.Bool.{and_parts, eqb-true}
 use Rattle.narrow.specs.Numbered.Term.{Gets}
 use Rattle.narrow.specs.Numbered.Ticket.{Holds, YesWord, Shown, Given, yes_sum, terms_of, all_hold, has_yes, lets, CanShow, can}
-use Rattle.narrow.proofs.RowKinds.{here, in-same, any_in, all_in, in_join}
+use Rattle.narrow.proofs.RowKinds.{here, in_same, any_in, all_in, in_join}
 use Rattle.narrow.proofs.Numbered.Kinds.{serves, has_yes_any, lines_hold_all, ties_of_join}
 use Rattle.narrow.proofs.Numbered.Parts.{ticket_given, yes_given, tie_given}
 use Rattle.narrow.proofs.Numbered.Can.{May, by_key, by_yes, by_tied, serves_less, met_by, is_can}
@@ -14,7 +14,7 @@ module _ (h : Holds) (q : ℕ) (g : Given) (s : Shown) (show : CanShow (terms_of
   may_had : (k : ℕ) (y : YesWord) → serves h q k y ≡ true → Gets (terms_of g) (yes_sum y) → May h q g s.ticket k
   may_had k y e d =
       ⊎_elim
-      (λ m. by_key (in-same (sym (eqb-true y.key k (and_parts (eqb y.key k) (all_hold h q y.limits) e).0)) m))
+      (λ m. by_key (in_same (sym (eqb-true y.key k (and_parts (eqb y.key k) (all_hold h q y.limits) e).0)) m))
       (λ (z, m, same, more). by_yes z m (serves_less h q k y z (same, more) e))
       (yes_given g y d)
 

@@ -3,7 +3,7 @@
 use Rattle.std.proofs.Common.{◌≡◌, ℕ, true, List, [], ◌∷◌, ◌++◌, sym, refl, ap, ◌∙◌, subst, ⊎_elim, append_assoc}
 use Rattle.narrow.specs.Numbered.Ticket.{Holds, Ticket, YesWord, Shown, Given, can}
 use Rattle.narrow.specs.Numbered.Promise.{Narrower, LineLess, MoreGiven}
-use Rattle.narrow.proofs.RowKinds.{◌∈◌, here, there, in-cons, in_right, all_in, in_all}
+use Rattle.narrow.proofs.RowKinds.{◌∈◌, here, there, in_cons, in_right, all_in, in_all}
 use Rattle.narrow.proofs.Numbered.Kinds.{may_yes, lines_hold_all}
 use Rattle.narrow.proofs.Numbered.Same.{Extends, Narrows}
 use Rattle.narrow.proofs.Numbered.Can.{May, by_key, by_yes, by_tied, serves_less, may, met_by, can_is, is_can}
@@ -19,7 +19,7 @@ module _ {A : Type 0} (R : A → A → Type 0) (self : (x : A) → R x x) where
 
   -- a row is covered by one whose first only is another, to which its first is related
   covers_first : (x y : A) (xs : List A) → R x y → Covers R (x ∷ xs) (y ∷ xs)
-  covers_first x y xs r a m = ⊎_elim (λ e. (y, here refl, subst (λ b. R b y) (sym e) r)) (λ n. (a, there n, self a)) (in-cons m)
+  covers_first x y xs r a m = ⊎_elim (λ e. (y, here refl, subst (λ b. R b y) (sym e) r)) (λ n. (a, there n, self a)) (in_cons m)
 
 -- all of g is in e, tickets and yeses perhaps with their latest lines left off
 record Covered (g e : Given) : Type 0 where

@@ -4,7 +4,7 @@ use Rattle.std.proofs.Common.{◌≡◌, ℕ, ◌⊎◌, List, [], ◌∷◌, �
 use Rattle.narrow.specs.Numbered.Term.{Line, Limit, Else, Root, Yes, Tie, Gets}
 use Rattle.narrow.specs.Numbered.Ticket.{Ticket, YesWord, Shown, Given, ticket_sum, yes_sum, limit_lines, terms_of}
 use Rattle.narrow.specs.Numbered.Promise.{TicketGiven, YesGiven}
-use Rattle.narrow.proofs.RowKinds.{◌∈◌, in-same}
+use Rattle.narrow.proofs.RowKinds.{◌∈◌, in_same}
 use Rattle.narrow.proofs.Numbered.Terms.{lines_of, root_sums, lines_sums, Had, of_ticket, of_yes, of_key, of_tied, of_parts, had}
 
 -- the limits among lines
@@ -67,5 +67,5 @@ pub tie_given : (g : Given) (t : Ticket) (y : YesWord) → Gets (terms_of g) (Ti
 tie_given g t y d = go (had g d)
   where
     go : Had g [] (Tie (ticket_sum t) (yes_sum y)) → ((w : Shown) × (w ∈ g.tied) × (w.ticket ≡ t) × (y ∈ w.yeses)) ⊎ Gets (terms_of g) (yes_sum y)
-    go (of_tied w z m n p r) = inl (w, m, one_ticket w.ticket t (sym p), in-same (one_yes y z r) n)
+    go (of_tied w z m n p r) = inl (w, m, one_ticket w.ticket t (sym p), in_same (one_yes y z r) n)
     go (of_parts a e) = inr e

@@ -4,7 +4,7 @@ use Rattle.std.proofs.Common.{◌≡◌, ℕ, true, false, List, [], ◌∷◌, 
 use Rattle.std.proofs.lemmas.Bool.{and_parts, and_from, eq-eqb, eqb-true, cases_Bool}
 use Rattle.narrow.specs.Numbered.Term.{Line, Limit, Else, Term, Root, Yes, Tie, Gets, has, sum, tie, sums}
 use Rattle.narrow.specs.Numbered.Ticket.{Holds, Ticket, YesWord, Shown, Given, ticket_sum, yes_sum, limit_lines, terms_of, ticket_terms, yes_terms, tied_terms, ties_of, has_yes, is_in, all_hold, same_ticket, lines_can, lets, CanShow, HasAll, first_yes, first_tied, yes_for, yeses_for, can, shows, None, Some}
-use Rattle.narrow.proofs.RowKinds.{◌∈◌, here, in_left, in_right, in-none, in_one, in-same, any_in, in_any, all_in, in_all, join_in, in_join, first_in, first_none}
+use Rattle.narrow.proofs.RowKinds.{◌∈◌, here, in_left, in_right, in_none, in_one, in_same, any_in, in_any, all_in, in_all, join_in, in_join, first_in, first_none}
 use Rattle.narrow.proofs.Numbered.Kinds.{serves, meets, may_yes, tried, yeses_of, shown_with, has_yes_any, tied_yes_any, lines_hold_all, lines_can_all, any_can_any, first_yes_first, first_tied_first, first_shown_first, yeses_for_join, is_in_any, ticket_terms_join, yes_terms_join, key_terms_join, ties_of_join, tied_terms_join}
 use Rattle.narrow.proofs.Numbered.Same.{Extends, same_ticket_lem}
 use Rattle.narrow.proofs.Numbered.Can.{tried_extends}
@@ -48,7 +48,7 @@ module _ (h : Holds) (q : ℕ) (g : Given) (t : Ticket) (d : Gets (terms_of g) (
       key : is_in k g.keys ≡ true → Served h q g t k
       key i =
           let (x, m, p) = any_in (is_in_any k) g.keys i in
-          record { word = record { key = k; limits = [] }; chosen = cc; serving = and_from _ _ (eq-eqb k k refl) refl; had = tie d (gets_key g (in-same (sym (eqb-true x k p)) m)) }
+          record { word = record { key = k; limits = [] }; chosen = cc; serving = and_from _ _ (eq-eqb k k refl) refl; had = tie d (gets_key g (in_same (sym (eqb-true x k p)) m)) }
 
       free : is_in k g.keys ≡ false → has_yes h q k g.yeses ≡ true → Served h q g t k
       free i f =
@@ -75,7 +75,7 @@ module _ (h : Holds) (q : ℕ) (g : Given) (t : Ticket) (d : Gets (terms_of g) (
   can_show c = (d, ties)
     where
       tied : (l : Line) → l ∈ t.lines → {y : YesWord} → y ∈ yeses_of h q g t l → Gets (terms_of g) (Tie (ticket_sum t) (yes_sum y))
-      tied (Limit n) m o = absurd (in-none o)
+      tied (Limit n) m o = absurd (in_none o)
       tied (Else k) m {y} o =
           let s = served k (all_in (lines_can_all h q g t) m c) in
           let same : y ≡ s.word = in_one (rw s.chosen at o) in

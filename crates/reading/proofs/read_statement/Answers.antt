@@ -6,16 +6,16 @@ use Rattle.texts.proofs.Steps.{last_so, last_no}
 use Rattle.statements.proofs.Chains.{hands_on}
 use Rattle.reading.proofs.read_statement.Goals as goal
 
-pub returns-in-default : goal.returns-in-default
+pub returns-in_default : goal.returns-in_default
 unfolding said_in
-returns-in-default c = ap (λ ws. by_first ws c.args.text.now) (sym c.in-default.ensures)
+returns-in_default c = ap (λ ws. by_first ws c.args.text.now) (sym c.in_default.ensures)
 
-pub returns-in-err-read-by : goal.returns-in-err-read-by
+pub returns-in_err-read_by : goal.returns-in_err-read_by
 unfolding said_in
-returns-in-err-read-by c =
-    hands_on (option_map stated) c.from-residual.result stated (said_by c.in-Some.first.now c.args.text.now) _ c.from-residual.ensures.1 c.in-err-read-by.ensures
+returns-in_err-read_by c =
+    hands_on (option_map stated) c.from_residual.result stated (said_by c.in-Some.first.now c.args.text.now) _ c.from_residual.ensures.1 c.in_err-read_by.ensures
     (λ k h. last_no Some h ∙ ap (λ ws. by_first ws c.args.text.now) (sym c.in-Some.ensures))
 
 pub returns : goal.returns
 unfolding said_in
-returns c = last_so Some c.in-ok-read-by.ensures ∙ ap (λ ws. by_first ws c.args.text.now) (sym c.in-Some.ensures)
+returns c = last_so Some c.in_ok-read_by.ensures ∙ ap (λ ws. by_first ws c.args.text.now) (sym c.in-Some.ensures)

@@ -31,64 +31,64 @@ not_in_range w v = by (in_range w)
     by true e = contradiction (cc)
     by false e = refl
 
-pub returns-in-default : goal.returns-in-default
-returns-in-default c = not_read c.args.bytes.now Shape (other_kind c.args.bytes.now (λ rest e. omega (arith, ltb-true, ltb-false, ap length e)))
+pub returns-in_default : goal.returns-in_default
+returns-in_default c = not_read c.args.bytes.now Shape (other_kind c.args.bytes.now (λ rest e. omega (arith, ltb-true, ltb-false, ap length e)))
 
-pub returns-then-kind-ne-SHOWN-KIND : goal.returns-then-kind-ne-SHOWN-KIND
-returns-then-kind-ne-SHOWN-KIND c =
-    not_read c.args.bytes.now Shape (other_kind c.args.bytes.now (λ rest e. c.if-kind-ne-SHOWN-KIND.true (ap (λ (b : Bytes). get_or b 0 0) e)))
+pub returns-then-kind-ne-SHOWN_KIND : goal.returns-then-kind-ne-SHOWN_KIND
+returns-then-kind-ne-SHOWN_KIND c =
+    not_read c.args.bytes.now Shape (other_kind c.args.bytes.now (λ rest e. c.if-kind-ne-SHOWN_KIND.true (ap (λ (b : Bytes). get_or b 0 0) e)))
 
-pub returns-in-default-read-wish : goal.returns-in-default-read-wish
-returns-in-default-read-wish c =
-    let kind = begun c.args.bytes.now (omega (arith, ltb-true, ltb-false)) c.if-kind-ne-SHOWN-KIND.false in
-    not_read c.args.bytes.now Shape (no_wish c.args.bytes.now _ kind (sym c.in-default-read-wish.ensures))
+pub returns-in_default-read_wish : goal.returns-in_default-read_wish
+returns-in_default-read_wish c =
+    let kind = begun c.args.bytes.now (omega (arith, ltb-true, ltb-false)) c.if-kind-ne-SHOWN_KIND.false in
+    not_read c.args.bytes.now Shape (no_wish c.args.bytes.now _ kind (sym c.in_default-read_wish.ensures))
 
-pub returns-in-err-ticket : goal.returns-in-err-ticket
-returns-in-err-ticket c =
-    let p = err_from_is_err_and c.from-residual.result c.from-residual.ensures.1 in
-    let kind = begun c.args.bytes.now (omega (arith, ltb-true, ltb-false)) c.if-kind-ne-SHOWN-KIND.false in
+pub returns-in_err-ticket : goal.returns-in_err-ticket
+returns-in_err-ticket c =
+    let p = err_from_is_err_and c.from_residual.result c.from_residual.ensures.1 in
+    let kind = begun c.args.bytes.now (omega (arith, ltb-true, ltb-false)) c.if-kind-ne-SHOWN_KIND.false in
     let at = ap ticket.read (sym c.new-reader.ensures) in
     rw (p.1, p.2)
-    (not_read c.args.bytes.now _ (no_ticket c.args.bytes.now _ kind _ _ (sym c.in-Some.ensures) _ (at ∙ c.in-err-ticket.ensures)))
+    (not_read c.args.bytes.now _ (no_ticket c.args.bytes.now _ kind _ _ (sym c.in-Some.ensures) _ (at ∙ c.in_err-ticket.ensures)))
 
 -- a fault of the yeses is told, want of memory is let be
 yeses_told : (u : Unread) (due : Result (List Tied × Bytes) Fault) (rest bs : Bytes) → Yeses due (Err u) rest → ((f : Fault) → due ≡ Err f → shown_of bs ≡ Err f) → Told shown_view (shown_of bs) (Err u)
 yeses_told (Bad f) due rest bs y told = told f y
 yeses_told NoMemory due rest bs y told = tt
 
-pub returns-in-err-yeses : goal.returns-in-err-yeses
-returns-in-err-yeses c =
-    let p = err_from_is_err_and c.from-residual-in-err-yeses.result c.from-residual-in-err-yeses.ensures.1 in
-    let kind = begun c.args.bytes.now (omega (arith, ltb-true, ltb-false)) c.if-kind-ne-SHOWN-KIND.false in
+pub returns-in_err-yeses : goal.returns-in_err-yeses
+returns-in_err-yeses c =
+    let p = err_from_is_err_and c.from_residual-in_err-yeses.result c.from_residual-in_err-yeses.ensures.1 in
+    let kind = begun c.args.bytes.now (omega (arith, ltb-true, ltb-false)) c.if-kind-ne-SHOWN_KIND.false in
     let at = ap ticket.read (sym c.new-reader.ensures) in
     rw (p.1, p.2)
-    (yeses_told _ _ _ c.args.bytes.now c.in-err-yeses.ensures
-    (λ f e. not_read c.args.bytes.now f (no_yeses c.args.bytes.now _ kind _ _ (sym c.in-Some.ensures) _ _ (at ∙ c.in-ok-ticket.ensures) f e)))
+    (yeses_told _ _ _ c.args.bytes.now c.in_err-yeses.ensures
+    (λ f e. not_read c.args.bytes.now f (no_yeses c.args.bytes.now _ kind _ _ (sym c.in-Some.ensures) _ _ (at ∙ c.in_ok-ticket.ensures) f e)))
 
-pub returns-then-not-is-empty : goal.returns-then-not-is-empty
-returns-then-not-is-empty c =
-    let kind = begun c.args.bytes.now (omega (arith, ltb-true, ltb-false)) c.if-kind-ne-SHOWN-KIND.false in
+pub returns-then-not-is_empty : goal.returns-then-not-is_empty
+returns-then-not-is_empty c =
+    let kind = begun c.args.bytes.now (omega (arith, ltb-true, ltb-false)) c.if-kind-ne-SHOWN_KIND.false in
     let at = ap ticket.read (sym c.new-reader.ensures) in
-    more_left c.args.bytes.now _ _ (parts_read c.args.bytes.now _ kind _ _ (sym c.in-Some.ensures) _ _ (at ∙ c.in-ok-ticket.ensures) _ _ c.in-ok-yeses.ensures.0)
-    (λ e. eqb-false _ _ (sym c.if-not-is-empty.ensures) (ap length e))
+    more_left c.args.bytes.now _ _ (parts_read c.args.bytes.now _ kind _ _ (sym c.in-Some.ensures) _ _ (at ∙ c.in_ok-ticket.ensures) _ _ c.in_ok-yeses.ensures.0)
+    (λ e. eqb-false _ _ (sym c.if-not-is_empty.ensures) (ap length e))
 
 -- nothing is left
 none : (bs : Bytes) → true ≡ eqb (length bs) 0 → bs ≡ []
 none [] e = refl
 none (b ∷ bs) e = absurd (omega (arith, eqb-true (length (b ∷ bs)) 0 (sym e)))
 
-pub returns-in-default-in-range : goal.returns-in-default-in-range
-returns-in-default-in-range c =
-    let kind = begun c.args.bytes.now (omega (arith, ltb-true, ltb-false)) c.if-kind-ne-SHOWN-KIND.false in
+pub returns-in_default-in_range : goal.returns-in_default-in_range
+returns-in_default-in_range c =
+    let kind = begun c.args.bytes.now (omega (arith, ltb-true, ltb-false)) c.if-kind-ne-SHOWN_KIND.false in
     let at = ap ticket.read (sym c.new-reader.ensures) in
-    out_of_range c.args.bytes.now _ _ (parts_read c.args.bytes.now _ kind _ _ (sym c.in-Some.ensures) _ _ (at ∙ c.in-ok-ticket.ensures) _ _ c.in-ok-yeses.ensures.0)
-    (none _ c.if-not-is-empty.ensures) (not_in_range (raw_view c.in-Some.raw) _ c.in-default-in-range.ensures)
+    out_of_range c.args.bytes.now _ _ (parts_read c.args.bytes.now _ kind _ _ (sym c.in-Some.ensures) _ _ (at ∙ c.in_ok-ticket.ensures) _ _ c.in_ok-yeses.ensures.0)
+    (none _ c.if-not-is_empty.ensures) (not_in_range (raw_view c.in-Some.raw) _ c.in_default-in_range.ensures)
 
 pub returns : goal.returns
 returns c =
-    let kind = begun c.args.bytes.now (omega (arith, ltb-true, ltb-false)) c.if-kind-ne-SHOWN-KIND.false in
+    let kind = begun c.args.bytes.now (omega (arith, ltb-true, ltb-false)) c.if-kind-ne-SHOWN_KIND.false in
     let at = ap ticket.read (sym c.new-reader.ensures) in
-    let (good, same) = when_true_is (in_range (raw_view c.in-Some.raw)) (raw_view c.in-Some.raw) _ (sym c.in-Some-in-range.ensures) in
-    all_read c.args.bytes.now _ _ (parts_read c.args.bytes.now _ kind _ _ (sym c.in-Some.ensures) _ _ (at ∙ c.in-ok-ticket.ensures) _ _ c.in-ok-yeses.ensures.0)
-    (none _ c.if-not-is-empty.ensures) good ∙
-    ap (λ (w : WishView). Ok (record { asked = w; ticket = ticket_view c.in-ok-ticket.ticket; yeses = map tied_view (vec_items c.in-ok-yeses.yeses) })) same
+    let (good, same) = when_true_is (in_range (raw_view c.in-Some.raw)) (raw_view c.in-Some.raw) _ (sym c.in-Some-in_range.ensures) in
+    all_read c.args.bytes.now _ _ (parts_read c.args.bytes.now _ kind _ _ (sym c.in-Some.ensures) _ _ (at ∙ c.in_ok-ticket.ensures) _ _ c.in_ok-yeses.ensures.0)
+    (none _ c.if-not-is_empty.ensures) good ∙
+    ap (λ (w : WishView). Ok (record { asked = w; ticket = ticket_view c.in_ok-ticket.ticket; yeses = map tied_view (vec_items c.in_ok-yeses.yeses) })) same

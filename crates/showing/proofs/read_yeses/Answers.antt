@@ -9,29 +9,29 @@ use Rattle.codec.specs.Things.{tied}
 use Rattle.showing.proofs.Several.{after, after_on, after_stop, after_done, count_none, count_many, count_on}
 use Rattle.showing.proofs.read_yeses.Goals as goal
 
-pub returns-in-default : goal.returns-in-default
-returns-in-default c = count_none tied most_yeses c.args.reader.now.rest.now c.in-default.ensures.0
+pub returns-in_default : goal.returns-in_default
+returns-in_default c = count_none tied most_yeses c.args.reader.now.rest.now c.in_default.ensures.0
 
 pub returns-then-count-gt32 : goal.returns-then-count-gt32
 returns-then-count-gt32 c = count_many tied most_yeses c.args.reader.now.rest.now _ _ c.in-Some.ensures c.if-count-gt32.true
 
-pub returns-in-err-yes : goal.returns-in-err-yes
-returns-in-err-yes c =
-    let p = err_from_is_err_and c.from-residual.result c.from-residual.ensures.1 in
+pub returns-in_err-yes : goal.returns-in_err-yes
+returns-in_err-yes c =
+    let p = err_from_is_err_and c.from_residual.result c.from_residual.ensures.1 in
     let left = c.in-Some.count - c.loop.counter in
     rw (p.1, p.2)
     (count_on tied most_yeses c.args.reader.now.rest.now _ _ c.in-Some.ensures (omega (arith, c.if-count-gt32.false)) ∙
-    (c.loop.invariant.1 ∙ after_stop tied.read left _ c.loop.reader.rest.now (omega (arith, c.loop-test.true)) _ c.in-err-yes.ensures))
+    (c.loop.invariant.1 ∙ after_stop tied.read left _ c.loop.reader.rest.now (omega (arith, c.loop-test.true)) _ c.in_err-yes.ensures))
 
 pub loop-preserved : goal.loop-preserved
 loop-preserved c =
     let left = c.in-Some.count - c.loop.counter in
     let one : left - 1 ≡ c.in-Some.count - (c.loop.counter + 1) = omega arith in
-    let items = map_push tied_view (vec_items c.loop.yeses) c.in-ok-yes.yes in (
-      omega (arith, c.loop.invariant.0, c.in-ok-push.ensures.len),
+    let items = map_push tied_view (vec_items c.loop.yeses) c.in_ok-yes.yes in (
+      omega (arith, c.loop.invariant.0, c.in_ok-push.ensures.len),
       c.loop.invariant.1 ∙
-          (after_on tied.read left _ c.loop.reader.rest.now (omega (arith, c.loop-test.true)) _ _ c.in-ok-yes.ensures ∙
-          (ap (λ (xs : List Tied). after xs (read_several tied.read (left - 1) c.read.new.reader.rest.now)) (sym items ∙ ap (map tied_view) (sym c.in-ok-push.ensures.items)) ∙
+          (after_on tied.read left _ c.loop.reader.rest.now (omega (arith, c.loop-test.true)) _ _ c.in_ok-yes.ensures ∙
+          (ap (λ (xs : List Tied). after xs (read_several tied.read (left - 1) c.read.new.reader.rest.now)) (sym items ∙ ap (map tied_view) (sym c.in_ok-push.ensures.items)) ∙
           ap (λ (n : ℕ). after (map tied_view (vec_items c.push.new.self)) (read_several tied.read n c.read.new.reader.rest.now)) one)),
     )
 

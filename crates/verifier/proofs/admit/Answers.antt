@@ -48,16 +48,16 @@ pub returns-in-Err : goal.returns-in-Err
 returns-in-Err c =
     let s = secrets c.args.book.now in
     let bs = c.args.bytes.now in
-    let e = unread_told s bs c.in-Err.unread c.args.state c.not-read.result c.in-Err.ensures c.not-read.ensures in
-    record { verdict = e; through = with_made c.not-read.result (through_of s bs) e; why = with_made c.not-read.result (why_of s bs) e }
+    let e = unread_told s bs c.in-Err.unread c.args.state c.not_read.result c.in-Err.ensures c.not_read.ensures in
+    record { verdict = e; through = with_made c.not_read.result (through_of s bs) e; why = with_made c.not_read.result (why_of s bs) e }
 
 pub returns-in-Ok-check : goal.returns-in-Ok-check
 returns-in-Ok-check c =
     let s = secrets c.args.book.now in
     let bs = c.args.bytes.now in
     let right = c.in-Ok-check.ensures in
-    let e : c.by-lines.result ≡ spec.verdict s bs =
-    c.by-lines.ensures ∙
+    let e : c.by_lines.result ≡ spec.verdict s bs =
+    c.by_lines.ensures ∙
     (ap (λ (v : Shown). by_lines (shown_view v)) right.0 ∙ (sym (passed s (shown_view c.in-Ok.shown) right.1) ∙ sym (read_on s bs (shown_view c.in-Ok.shown) c.in-Ok.ensures))) in
     record { verdict = e; through = through_of s bs _ e; why = why_of s bs _ e }
 

@@ -19,13 +19,13 @@ lines_are s lent j same e =
     ap of_lines (e ∙ ap (judged (says (wish_view s.wish)) (rows s.ticket.body.lines)) (ap bodies same ∙ bodies_untied (vec_items s.yeses)))
 
 pub returns-in-Through : goal.returns-in-Through
-returns-in-Through c = lines_are c.args.right.now.shown _ _ c.as-slice.ensures.value c.in-Through.ensures.value
+returns-in-Through c = lines_are c.args.right.now.shown _ _ c.as_slice.ensures.value c.in-Through.ensures.value
 
 pub returns-in-LimitFails : goal.returns-in-LimitFails
-returns-in-LimitFails c = lines_are c.args.right.now.shown _ _ c.as-slice.ensures.value c.in-LimitFails.ensures.value
+returns-in-LimitFails c = lines_are c.args.right.now.shown _ _ c.as_slice.ensures.value c.in-LimitFails.ensures.value
 
 pub returns-in-NoYes : goal.returns-in-NoYes
-returns-in-NoYes c = lines_are c.args.right.now.shown _ _ c.as-slice.ensures.value c.in-NoYes.ensures.value
+returns-in-NoYes c = lines_are c.args.right.now.shown _ _ c.as_slice.ensures.value c.in-NoYes.ensures.value
 
 pub returns-in-NoneHolds : goal.returns-in-NoneHolds
-returns-in-NoneHolds c = lines_are c.args.right.now.shown _ _ c.as-slice.ensures.value c.in-NoneHolds.ensures.value
+returns-in-NoneHolds c = lines_are c.args.right.now.shown _ _ c.as_slice.ensures.value c.in-NoneHolds.ensures.value

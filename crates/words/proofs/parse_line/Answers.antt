@@ -18,32 +18,32 @@ Both text r = record { value : r ≡ line_in text; told : Told (words_of text) r
 both : (text : List ℕ) (r : Result LineView Cause) → r ≡ line_in text → Both text r
 both text r e = record { value = e; told = subst (Told (words_of text)) (sym e) (told (words_of text)) }
 
-pub returns-in-default : goal.returns-in-default
+pub returns-in_default : goal.returns-in_default
 unfolding line_of
-returns-in-default c = both c.args.text.now _ (ap line_of (sym c.in-default.ensures))
+returns-in_default c = both c.args.text.now _ (ap line_of (sym c.in_default.ensures))
 
-pub returns-in-err-only-word : goal.returns-in-err-only-word
-returns-in-err-only-word c =
+pub returns-in_err-only_word : goal.returns-in_err-only_word
+returns-in_err-only_word c =
     both c.args.text.now _
-    (no_word (one_word (words_of c.in-Some.rest.now)) key_of AnElse _ (at_else c.in-Some.kind.now _ c.args.text.now c.in-Some.ensures (c.if-eq.ensures.0 refl)) c.from-residual.result _ _ c.from-residual.ensures.1 c.in-err-only-word.ensures)
+    (no_word (one_word (words_of c.in-Some.rest.now)) key_of AnElse _ (at_else c.in-Some.kind.now _ c.args.text.now c.in-Some.ensures (c.if-eq.ensures.0 refl)) c.from_residual.result _ _ c.from_residual.ensures.1 c.in_err-only_word.ensures)
 
-pub returns-in-err-key-of : goal.returns-in-err-key-of
-returns-in-err-key-of c =
+pub returns-in_err-key_of : goal.returns-in_err-key_of
+returns-in_err-key_of c =
     both c.args.text.now _
-    (no_content (one_word (words_of c.in-Some.rest.now)) key_of AnElse _ (at_else c.in-Some.kind.now _ c.args.text.now c.in-Some.ensures (c.if-eq.ensures.0 refl)) _ c.in-ok-only-word.ensures c.from-residual-in-err-key-of.result _ _ c.from-residual-in-err-key-of.ensures.1 c.in-err-key-of.ensures)
+    (no_content (one_word (words_of c.in-Some.rest.now)) key_of AnElse _ (at_else c.in-Some.kind.now _ c.args.text.now c.in-Some.ensures (c.if-eq.ensures.0 refl)) _ c.in_ok-only_word.ensures c.from_residual-in_err-key_of.result _ _ c.from_residual-in_err-key_of.ensures.1 c.in_err-key_of.ensures)
 
 pub returns-then-eq : goal.returns-then-eq
 returns-then-eq c =
     both c.args.text.now _
-    (content (one_word (words_of c.in-Some.rest.now)) key_of AnElse _ (at_else c.in-Some.kind.now _ c.args.text.now c.in-Some.ensures (c.if-eq.ensures.0 refl)) _ c.in-ok-only-word.ensures _ c.in-ok-key-of.ensures)
+    (content (one_word (words_of c.in-Some.rest.now)) key_of AnElse _ (at_else c.in-Some.kind.now _ c.args.text.now c.in-Some.ensures (c.if-eq.ensures.0 refl)) _ c.in_ok-only_word.ensures _ c.in_ok-key_of.ensures)
 
-pub returns-in-err-parse-limit : goal.returns-in-err-parse-limit
-returns-in-err-parse-limit c =
+pub returns-in_err-parse_limit : goal.returns-in_err-parse_limit
+returns-in_err-parse_limit c =
     both c.args.text.now _
-    (exits c.from-residual-in-err-parse-limit.result _ _ c.from-residual-in-err-parse-limit.ensures.1 ∙ ap (λ r. and_is r ALimit) c.in-err-parse-limit.ensures
+    (exits c.from_residual-in_err-parse_limit.result _ _ c.from_residual-in_err-parse_limit.ensures.1 ∙ ap (λ r. and_is r ALimit) c.in_err-parse_limit.ensures
     ∙ at_limit c.in-Some.kind.now _ c.args.text.now c.in-Some.ensures (not_from_Decides false c.if-eq.ensures refl))
 
 pub returns : goal.returns
 returns c =
     both c.args.text.now _
-    (ap (λ r. and_is r ALimit) c.in-ok-parse-limit.ensures ∙ at_limit c.in-Some.kind.now _ c.args.text.now c.in-Some.ensures (not_from_Decides false c.if-eq.ensures refl))
+    (ap (λ r. and_is r ALimit) c.in_ok-parse_limit.ensures ∙ at_limit c.in-Some.kind.now _ c.args.text.now c.in-Some.ensures (not_from_Decides false c.if-eq.ensures refl))

@@ -8,40 +8,40 @@ use Rattle.book.specs.Table.{keys_view}
 use Rattle.book.proofs.Tabled.{some_view}
 use Rattle.book.proofs.keys.read_key.Goals as goal
 
-pub returns-in-err-read-kind : goal.returns-in-err-read-kind
-returns-in-err-read-kind c =
-    let p = err_from_is_err_and c.from-residual.result c.from-residual.ensures.1 in
-    let q = c.in-err-read-kind.ensures in
+pub returns-in_err-read_kind : goal.returns-in_err-read_kind
+returns-in_err-read_kind c =
+    let p = err_from_is_err_and c.from_residual.result c.from_residual.ensures.1 in
+    let q = c.in_err-read_kind.ensures in
     rw (p.1, p.2) (behind_other _ key_kind c.args.reader.now.rest.now q.1 ∙ ap Err (sym q.0))
 
-pub returns-in-err-number : goal.returns-in-err-number
-returns-in-err-number c =
-    let p = err_from_is_err_and c.from-residual-in-err-number.result c.from-residual-in-err-number.ensures.1 in
+pub returns-in_err-number : goal.returns-in_err-number
+returns-in_err-number c =
+    let p = err_from_is_err_and c.from_residual-in_err-number.result c.from_residual-in_err-number.ensures.1 in
     let ks = keys_view (vec_items c.args.book.now.keys) in
-    rw (p.1, p.2) (behind_on _ key_kind _ _ c.in-ok-read-kind.ensures ∙ both_first (free_number ks) mac _ _ (only_stop key_number _ _ _ _ c.in-err-number.ensures))
+    rw (p.1, p.2) (behind_on _ key_kind _ _ c.in_ok-read_kind.ensures ∙ both_first (free_number ks) mac _ _ (only_stop key_number _ _ _ _ c.in_err-number.ensures))
 
-pub returns-then-is-some : goal.returns-then-is-some
-returns-then-is-some c =
+pub returns-then-is_some : goal.returns-then-is_some
+returns-then-is_some c =
     let ks = keys_view (vec_items c.args.book.now.keys) in
-    let n = c.in-ok-number.number.number in
-    let there : taken ks n ≡ true = sym (ap is_some c.secret.ensures) ∙ (some_view c.secret.result ∙ sym c.if-is-some.ensures) in
-    behind_on _ key_kind _ _ c.in-ok-read-kind.ensures ∙
-    both_first (free_number ks) mac _ _ (only_other key_number _ _ _ n _ c.in-ok-number.ensures (not_from_true (taken ks n) there))
+    let n = c.in_ok-number.number.number in
+    let there : taken ks n ≡ true = sym (ap is_some c.secret.ensures) ∙ (some_view c.secret.result ∙ sym c.if-is_some.ensures) in
+    behind_on _ key_kind _ _ c.in_ok-read_kind.ensures ∙
+    both_first (free_number ks) mac _ _ (only_other key_number _ _ _ n _ c.in_ok-number.ensures (not_from_true (taken ks n) there))
 
-pub returns-in-err-secret : goal.returns-in-err-secret
-returns-in-err-secret c =
-    let p = err_from_is_err_and c.from-residual-in-err-secret.result c.from-residual-in-err-secret.ensures.1 in
+pub returns-in_err-secret : goal.returns-in_err-secret
+returns-in_err-secret c =
+    let p = err_from_is_err_and c.from_residual-in_err-secret.result c.from_residual-in_err-secret.ensures.1 in
     let ks = keys_view (vec_items c.args.book.now.keys) in
-    let n = c.in-ok-number.number.number in
-    let free : taken ks n ≡ false = sym (ap is_some c.secret.ensures) ∙ (some_view c.secret.result ∙ sym c.if-is-some.ensures) in
+    let n = c.in_ok-number.number.number in
+    let free : taken ks n ≡ false = sym (ap is_some c.secret.ensures) ∙ (some_view c.secret.result ∙ sym c.if-is_some.ensures) in
     rw (p.1, p.2)
-    (behind_on _ key_kind _ _ c.in-ok-read-kind.ensures ∙
-    both_second (free_number ks) mac _ n _ (only_on key_number _ _ _ n _ c.in-ok-number.ensures (not_from_false (taken ks n) free)) _ c.in-err-secret.ensures)
+    (behind_on _ key_kind _ _ c.in_ok-read_kind.ensures ∙
+    both_second (free_number ks) mac _ n _ (only_on key_number _ _ _ n _ c.in_ok-number.ensures (not_from_false (taken ks n) free)) _ c.in_err-secret.ensures)
 
 pub returns : goal.returns
 returns c =
     let ks = keys_view (vec_items c.args.book.now.keys) in
-    let n = c.in-ok-number.number.number in
-    let free : taken ks n ≡ false = sym (ap is_some c.secret.ensures) ∙ (some_view c.secret.result ∙ sym c.if-is-some.ensures) in
-    behind_on _ key_kind _ _ c.in-ok-read-kind.ensures ∙
-    both_on (free_number ks) mac _ n _ (only_on key_number _ _ _ n _ c.in-ok-number.ensures (not_from_false (taken ks n) free)) _ _ c.in-ok-secret.ensures
+    let n = c.in_ok-number.number.number in
+    let free : taken ks n ≡ false = sym (ap is_some c.secret.ensures) ∙ (some_view c.secret.result ∙ sym c.if-is_some.ensures) in
+    behind_on _ key_kind _ _ c.in_ok-read_kind.ensures ∙
+    both_on (free_number ks) mac _ n _ (only_on key_number _ _ _ n _ c.in_ok-number.ensures (not_from_false (taken ks n) free)) _ _ c.in_ok-secret.ensures

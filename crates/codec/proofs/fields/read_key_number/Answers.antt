@@ -7,13 +7,13 @@ use Rattle.codec.proofs.Combined.{two_byte_join}
 use Rattle.codec.proofs.Steps.{two_byte_short, only_on, only_other, only_stop}
 use Rattle.codec.proofs.fields.read_key_number.Goals as goal
 
-pub returns-in-default : goal.returns-in-default
-returns-in-default c = only_stop two_byte _ _ c.args.reader.now.rest.now _ (two_byte_short c.args.reader.now.rest.now c.in-default.ensures.0)
+pub returns-in_default : goal.returns-in_default
+returns-in_default c = only_stop two_byte _ _ c.args.reader.now.rest.now _ (two_byte_short c.args.reader.now.rest.now c.in_default.ensures.0)
 
-pub returns-in-default-new : goal.returns-in-default-new
-returns-in-default-new c =
+pub returns-in_default-new : goal.returns-in_default-new
+returns-in_default-new c =
     let read = ap two_byte.read c.in-Some.ensures ∙ two_byte_join c.in-Some.number c.two.new.self.rest.now in
-    only_other two_byte _ _ c.args.reader.now.rest.now c.in-Some.number _ read (lt-leb c.in-Some.number last_key c.in-default-new.ensures)
+    only_other two_byte _ _ c.args.reader.now.rest.now c.in-Some.number _ read (lt-leb c.in-Some.number last_key c.in_default-new.ensures)
 
 pub returns : goal.returns
 returns c =

@@ -4,4 +4,4 @@ use Rattle.hmac.proofs.midstates.key_block.Goals as goal
 
 pub returns : goal.returns
 returns c x l e =
-    key_block_is c.from-bytes.result c.args.key c.args.pad x c.from-bytes.ensures e (search rules) (search rules) l
+    key_block_is c.from_bytes.result c.args.key c.args.pad x c.from_bytes.ensures e (search rules) (search rules) l

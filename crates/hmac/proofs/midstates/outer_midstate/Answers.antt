@@ -5,5 +5,5 @@ use Rattle.hmac.proofs.midstates.outer_midstate.Goals as goal
 pub returns : goal.returns
 unfolding midstate
 returns c =
-    let e = c.key-block.ensures 0x5c (omega arith) refl in
+    let e = c.key_block.ensures 0x5c (omega arith) refl in
     cc

@@ -24,5 +24,5 @@ returns c l m =
     let h = lane l c.args.h in
     let i : c.loop-i.i ≡ 3 = omega arith in
     let u : Underway 48 b h (lane l c.loop-i.s.v) (lane l c.loop-i.s.w) = rw i at (c.loop-i.invariant l m) in
-    let e = c.last-sixteen-v.ensures l b h m (ending_none b h (lane l c.loop-i.s.v) (lane l c.loop-i.s.w) u) in
+    let e = c.last_sixteen-v.ensures l b h m (ending_none b h (lane l c.loop-i.s.v) (lane l c.loop-i.s.w) u) in
     c.sum.ensures l m ∙ ap (zip2 ◌⊞◌ h) e.variables

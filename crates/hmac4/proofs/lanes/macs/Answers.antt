@@ -17,4 +17,4 @@ returns c l key m k n small short ek em =
     c.compress-outer.ensures l k ∙ rw (c.start-2.ensures l k, c.mixed-2.ensures l k) in
     mac_lane key m row (lane l c.args.blocks) inner outer digest (lane l c.compress.result) n small short ek em ei eo
     (c.compress-digest.ensures l k)
-    (c.compress.ensures l k ∙ ap (compressed outer) (c.outer-block.ensures l k))
+    (c.compress.ensures l k ∙ ap (compressed outer) (c.outer_block.ensures l k))

@@ -13,15 +13,15 @@ pub loop-i-init : goal.loop-i-init
 unfolding all
 loop-i-init c = refl
 
-pub returns-then-not-limit-holds : goal.returns-then-not-limit-holds
-returns-then-not-limit-holds c =
+pub returns-then-not-limit_holds : goal.returns-then-not-limit_holds
+returns-then-not-limit_holds c =
     sym (fails_at (λ (l : Bytes). met no_key (says (wish_view c.args.wish) l)) (rows c.args.yes.now.limits) c.loop-i.i c.in-Some.limit.now [] c.in-Some.ensures.0 c.in-Some.ensures.1
-    (sym c.if-not-limit-holds.ensures))
+    (sym c.if-not-limit_holds.ensures))
 
 pub loop-i-preserved : goal.loop-i-preserved
 loop-i-preserved c =
     each_yet (λ (l : Bytes). met no_key (says (wish_view c.args.wish) l)) (rows c.args.yes.now.limits) c.loop-i.i c.in-Some.limit.now [] c.in-Some.ensures.0 c.in-Some.ensures.1
-    c.loop-i.invariant (sym c.if-not-limit-holds.ensures)
+    c.loop-i.invariant (sym c.if-not-limit_holds.ensures)
 
 pub returns : goal.returns
 returns c =

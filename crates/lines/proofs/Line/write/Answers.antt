@@ -13,4 +13,4 @@ pub returns-in-Else : goal.returns-in-Else
 returns-in-Else c =
     let key = c.in-Else.key in
     rw c.in-Else.is
-    (record { writes = c.write-else.ensures; back = lines_back (AnElse key.number) (le-leb key.number 4095 key.known) })
+    (record { writes = c.write_else.ensures; back = lines_back (AnElse key.number) (le-leb key.number 4095 key.known) })

@@ -6,5 +6,5 @@ pub returns : goal.returns
 returns c = (
   omega arith,
   omega arith,
-  counted_written c.args.kind c.args.items.now c.copy-from-slice.new.self c.args.out.now (omega arith) c.copy-from-slice.ensures.after,
+  counted_written c.args.kind c.args.items.now c.copy_from_slice.new.self c.args.out.now (omega arith) c.copy_from_slice.ensures.after,
 )

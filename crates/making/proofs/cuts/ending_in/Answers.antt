@@ -9,24 +9,24 @@ use Rattle.making.specs.Cuts.{ending}
 use Rattle.texts.proofs.Steps.{so, no}
 use Rattle.making.proofs.cuts.ending_in.Goals as goal
 
-pub returns-in-default : goal.returns-in-default
+pub returns-in_default : goal.returns-in_default
 unfolding ending
-returns-in-default c = no _ (ap (or_else MissingWord) c.in-default.ensures)
+returns-in_default c = no _ (ap (or_else MissingWord) c.in_default.ensures)
 
-pub returns-in-default-last-word : goal.returns-in-default-last-word
+pub returns-in_default-last_word : goal.returns-in_default-last_word
 unfolding ending
-returns-in-default-last-word c = so _ (ap (or_else MissingWord) c.in-Some.ensures) (no _ (ap (or_else MissingWord) c.in-default-last-word.ensures))
+returns-in_default-last_word c = so _ (ap (or_else MissingWord) c.in-Some.ensures) (no _ (ap (or_else MissingWord) c.in_default-last_word.ensures))
 
 pub returns-then-ne : goal.returns-then-ne
 unfolding ending
 returns-then-ne c =
     so _ (ap (or_else MissingWord) c.in-Some.ensures)
-    (so _ (ap (or_else MissingWord) c.in-Some-last-word.ensures)
-    (sym (cond-false (bytes_eq c.in-Some-last-word.word.now c.args.label.now) _ _ (differs c.in-Some-last-word.word.now c.args.label.now (apart (c.in-Some-last-word.word.now ≡ c.args.label.now) c.if-ne.ensures)))))
+    (so _ (ap (or_else MissingWord) c.in-Some-last_word.ensures)
+    (sym (cond-false (bytes_eq c.in-Some-last_word.word.now c.args.label.now) _ _ (differs c.in-Some-last_word.word.now c.args.label.now (apart (c.in-Some-last_word.word.now ≡ c.args.label.now) c.if-ne.ensures)))))
 
 pub returns : goal.returns
 unfolding ending
 returns c =
     so _ (ap (or_else MissingWord) c.in-Some.ensures)
-    (so _ (ap (or_else MissingWord) c.in-Some-last-word.ensures)
-    (sym (cond-true (bytes_eq c.in-Some-last-word.word.now c.args.label.now) _ _ ((bytes_eq-Decides c.in-Some-last-word.word.now c.args.label.now).1 (alike (c.in-Some-last-word.word.now ≡ c.args.label.now) c.if-ne.ensures)))))
+    (so _ (ap (or_else MissingWord) c.in-Some-last_word.ensures)
+    (sym (cond-true (bytes_eq c.in-Some-last_word.word.now c.args.label.now) _ _ ((bytes_eq-Decides c.in-Some-last_word.word.now c.args.label.now).1 (alike (c.in-Some-last_word.word.now ≡ c.args.label.now) c.if-ne.ensures)))))

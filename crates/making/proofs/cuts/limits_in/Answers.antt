@@ -10,4 +10,4 @@ returns-in-None c = ap (λ v. Ok (map line_view v)) c.new.ensures.items ∙ ap (
 
 pub returns-in-Some : goal.returns-in-Some
 unfolding limits_in
-returns-in-Some c = subst (Told lines_view c.lines-in.result) (ap (λ ws. none_of ws (lines_in c.args.text.now)) (sym c.in-Some.ensures)) c.lines-in.ensures
+returns-in-Some c = subst (Told lines_view c.lines_in.result) (ap (λ ws. none_of ws (lines_in c.args.text.now)) (sym c.in-Some.ensures)) c.lines_in.ensures

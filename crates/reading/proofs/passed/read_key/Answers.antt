@@ -6,14 +6,14 @@ use Rattle.statements.proofs.Chains.{stops}
 use Rattle.reading.specs.Forms.{key_said}
 use Rattle.reading.proofs.passed.read_key.Goals as goal
 
-pub returns-in-err-key : goal.returns-in-err-key
+pub returns-in_err-key : goal.returns-in_err-key
 unfolding key_said
-returns-in-err-key c = stops stated c.from-residual.result c.from-residual.ensures.1 (no _ c.in-err-key.ensures)
+returns-in_err-key c = stops stated c.from_residual.result c.from_residual.ensures.1 (no _ c.in_err-key.ensures)
 
-pub returns-in-err-key-of : goal.returns-in-err-key-of
+pub returns-in_err-key_of : goal.returns-in_err-key_of
 unfolding key_said
-returns-in-err-key-of c = stops stated c.from-residual-in-err-key-of.result c.from-residual-in-err-key-of.ensures.1 (so _ c.in-ok-key.ensures (last_no _ c.in-err-key-of.ensures))
+returns-in_err-key_of c = stops stated c.from_residual-in_err-key_of.result c.from_residual-in_err-key_of.ensures.1 (so _ c.in_ok-key.ensures (last_no _ c.in_err-key_of.ensures))
 
 pub returns : goal.returns
 unfolding key_said
-returns c = so _ c.in-ok-key.ensures ((λ i. Ok (key_to c.in-ok-key-of.field-0.number (c.in-ok-from-str.ensures.ok i))) ∙ last_so _ c.in-ok-key-of.ensures)
+returns c = so _ c.in_ok-key.ensures ((λ i. Ok (key_to c.in_ok-key_of.field-0.number (c.in_ok-from_str.ensures.ok i))) ∙ last_so _ c.in_ok-key_of.ensures)

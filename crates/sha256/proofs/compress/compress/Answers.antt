@@ -17,5 +17,5 @@ unfolding compressed
 returns c =
     let i : c.loop-i.i ≡ 3 = omega arith in
     let u : Underway 48 c.args.block c.args.h c.loop-i.s.v c.loop-i.s.w = rw i at c.loop-i.invariant in
-    let e = c.last-sixteen-v.ensures c.args.block c.args.h (ending_none _ _ _ _ u) in
+    let e = c.last_sixteen-v.ensures c.args.block c.args.h (ending_none _ _ _ _ u) in
     cc

@@ -13,7 +13,7 @@ pub loop-i-preserved : goal.loop-i-preserved
 unfolding bytes
 loop-i-preserved c =
     let i : ℕ = c.loop-i.i in
-    let four = c.copy-from-slice.new.self in
+    let four = c.copy_from_slice.new.self in
     let n : length four ≡ 4 = search rules in
     let room : 4 * i ≤ length c.loop-i.out = omega arith in
     let within : i < length c.args.v = search rules in

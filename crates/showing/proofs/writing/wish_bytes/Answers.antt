@@ -6,5 +6,5 @@ use Rattle.showing.proofs.writing.wish_bytes.Goals as goal
 
 pub returns : goal.returns
 returns c =
-    let size : vec_len c.in-ok-out.out ≡ length (wish_bytes (wish_view c.args.wish)) = c.in-ok-out.ensures.len ∙ c.len.ensures in
-    written_all (wish_bytes (wish_view c.args.wish)) _ c.write.new.out c.write.result _ _ c.write.ensures.writes (c.as-mut-slice.ensures.len ∙ size) size
+    let size : vec_len c.in_ok-out.out ≡ length (wish_bytes (wish_view c.args.wish)) = c.in_ok-out.ensures.len ∙ c.len.ensures in
+    written_all (wish_bytes (wish_view c.args.wish)) _ c.write.new.out c.write.result _ _ c.write.ensures.writes (c.as_mut_slice.ensures.len ∙ size) size

@@ -19,8 +19,8 @@ loop-yes-preserved c =
     let yes = c.yes-item.result in
     let one : take (c.loop-yes.yes-index + 1) c.args.yeses.now ≡ front ++ yes ∷ [] =
     take_more c.args.yeses.now c.loop-yes.yes-index yes c.loop-yes-test.true ∙ ap (λ (y : TiedYes). front ++ y ∷ []) (sym c.yes-item.is) in
-    let written = c.as-slice.ensures.value ∙ c.in-ok-to-bytes.ensures in
-    c.in-ok-extend-from-slice.ensures.items ∙
+    let written = c.as_slice.ensures.value ∙ c.in_ok-to_bytes.ensures in
+    c.in_ok-extend_from_slice.ensures.items ∙
     ((λ i. c.loop-yes.invariant i ++ written i) ∙
     (sym (several_push tied.write (map tied_view front) (tied_view yes)) ∙
     (ap (write_several tied.write) (sym (map_push tied_view front yes)) ∙ ap (λ (ys : List TiedYes). write_several tied.write (map tied_view ys)) (sym one))))

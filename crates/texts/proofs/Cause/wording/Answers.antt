@@ -11,9 +11,6 @@ returns-in-MissingWord c = ap worded (sym c.in-MissingWord.is)
 pub returns-in-TooManyWords : goal.returns-in-TooManyWords
 returns-in-TooManyWords c = ap worded (sym c.in-TooManyWords.is)
 
-pub returns-in-NoColon : goal.returns-in-NoColon
-returns-in-NoColon c = ap worded (sym c.in-NoColon.is)
-
 pub returns-in-NotANumber : goal.returns-in-NotANumber
 returns-in-NotANumber c = ap worded (sym c.in-NotANumber.is)
 

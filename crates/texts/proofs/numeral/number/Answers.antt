@@ -3,11 +3,11 @@ use Rattle.texts.proofs.Digits.{small_exit, small_read, small_large}
 use Rattle.texts.proofs.Steps.{err_exits}
 use Rattle.texts.proofs.numeral.number.Goals as goal
 
-pub returns-in-err-wide-number : goal.returns-in-err-wide-number
-returns-in-err-wide-number c = err_exits c.from-residual.result _ c.from-residual.ensures.1 ∙ small_exit c.args.word.now 65535 4294967295 (omega arith) _ c.in-err-wide-number.ensures
+pub returns-in_err-wide_number : goal.returns-in_err-wide_number
+returns-in_err-wide_number c = err_exits c.from_residual.result _ c.from_residual.ensures.1 ∙ small_exit c.args.word.now 65535 4294967295 (omega arith) _ c.in_err-wide_number.ensures
 
 pub returns-in-Ok : goal.returns-in-Ok
-returns-in-Ok c = small_read c.args.word.now 65535 4294967295 (omega arith) _ c.in-ok-wide-number.ensures _ c.in-Ok.ensures.0 c.in-Ok.ensures.1
+returns-in-Ok c = small_read c.args.word.now 65535 4294967295 (omega arith) _ c.in_ok-wide_number.ensures _ c.in-Ok.ensures.0 c.in-Ok.ensures.1
 
 pub returns-in-Err : goal.returns-in-Err
-returns-in-Err c = small_large c.args.word.now 65535 4294967295 (omega arith) _ c.in-ok-wide-number.ensures c.in-Err.ensures
+returns-in-Err c = small_large c.args.word.now 65535 4294967295 (omega arith) _ c.in_ok-wide_number.ensures c.in-Err.ensures

@@ -13,17 +13,17 @@ use Rattle.tickets.proofs.Changed.{ticket_place, still_some, ticket_back, line_g
 use Rattle.tickets.proofs.Rightly.{right_line}
 use Rattle.tickets.proofs.Ticket.add.Goals as goal
 
-pub invariant-of-self : goal.invariant-of-self
-invariant-of-self c = (
+pub invariant_of-self : goal.invariant_of-self
+invariant_of-self c = (
   ap on_ticket c.grow.ensures.place ∙ c.args.self.now.body.stands,
   (still_some c.grow.result c.args.self.now.body.lines.place c.args.self.now.body.lines c.grow.new.lines c.args.self.now.mac.bytes c.args.line.now c.args.self.now.body.some c.grow.ensures.grown, tt),
 )
 
-pub returns-in-err-self : goal.returns-in-err-self
-returns-in-err-self c =
-    let p = err_from_is_err_and c.from-residual.result c.from-residual.ensures.1 in
+pub returns-in_err-self : goal.returns-in_err-self
+returns-in_err-self c =
+    let p = err_from_is_err_and c.from_residual.result c.from_residual.ensures.1 in
     let at = ticket_place c.args.self.now.body.lines.place c.args.self.now.body.stands in
-    let kept = c.in-err-self.ensures.grown in
+    let kept = c.in_err-self.ensures.grown in
     let body = ticket_back c.args.self.now.body c.grow.new.lines _ _ kept.1 in
     rw (p.1, p.2)
     (record {
@@ -35,7 +35,7 @@ pub returns : goal.returns
 returns c =
     let before = ticket_view c.args.self.now in
     let at = ticket_place c.args.self.now.body.lines.place c.args.self.now.body.stands in
-    let grown = c.in-ok-self.ensures.grown in
+    let grown = c.in_ok-self.ensures.grown in
     let added =
     line_grown _ c.args.line.now before at _ grown.0 ∙
     ap (λ (b : Bytes). Ok (record { of = record { number = before.of.number; lines = rows c.grow.new.lines }; mac = b })) (sym grown.1) in

@@ -9,11 +9,11 @@ use Rattle.tickets.proofs.Changed.{yes_place, yes_back, limit_grown, limit_refus
 use Rattle.tickets.proofs.Rightly.{right_limit}
 use Rattle.tickets.proofs.Yes.add.Goals as goal
 
-pub returns-in-err-self : goal.returns-in-err-self
-returns-in-err-self c =
-    let p = err_from_is_err_and c.from-residual.result c.from-residual.ensures.1 in
+pub returns-in_err-self : goal.returns-in_err-self
+returns-in_err-self c =
+    let p = err_from_is_err_and c.from_residual.result c.from_residual.ensures.1 in
     let at = yes_place c.args.self.now.body.limits.place c.args.self.now.body.stands in
-    let kept = c.in-err-self.ensures.grown in
+    let kept = c.in_err-self.ensures.grown in
     let body = yes_back c.args.self.now.body c.grow.new.lines _ kept.1 in
     rw (p.1, p.2)
     (record {
@@ -25,7 +25,7 @@ pub returns : goal.returns
 returns c =
     let before = yes_view c.args.self.now in
     let at = yes_place c.args.self.now.body.limits.place c.args.self.now.body.stands in
-    let grown = c.in-ok-self.ensures.grown in
+    let grown = c.in_ok-self.ensures.grown in
     let added =
     limit_grown _ c.args.limit.now before at _ grown.0 ∙
     ap (λ (b : Bytes). Ok (record { of = record { key = before.of.key; lines = rows c.grow.new.lines }; mac = b })) (sym grown.1) in

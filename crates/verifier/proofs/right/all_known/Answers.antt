@@ -20,15 +20,15 @@ pub loop-yes-init : goal.loop-yes-init
 unfolding all
 loop-yes-init c = refl
 
-pub returns-then-is-none : goal.returns-then-is-none
-returns-then-is-none c =
+pub returns-then-is_none : goal.returns-then-is_none
+returns-then-is_none c =
     sym (fails_through tied_view _ c.args.yeses.now c.loop-yes.yes-index c.yes-item.result c.loop-yes-test.true c.yes-item.is
-    (ap is_some (sym c.secret.ensures) ∙ (some_view c.secret.result ∙ c.if-is-none.ensures)))
+    (ap is_some (sym c.secret.ensures) ∙ (some_view c.secret.result ∙ c.if-is_none.ensures)))
 
 pub loop-yes-preserved : goal.loop-yes-preserved
 loop-yes-preserved c =
     each_through tied_view _ c.args.yeses.now c.loop-yes.yes-index c.yes-item.result c.loop-yes-test.true c.yes-item.is c.loop-yes.invariant
-    (ap is_some (sym c.secret.ensures) ∙ (some_view c.secret.result ∙ c.if-is-none.ensures))
+    (ap is_some (sym c.secret.ensures) ∙ (some_view c.secret.result ∙ c.if-is_none.ensures))
 
 pub returns : goal.returns
 returns c =

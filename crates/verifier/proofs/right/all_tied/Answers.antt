@@ -11,15 +11,15 @@ pub loop-yes-init : goal.loop-yes-init
 unfolding all
 loop-yes-init c = λ known. refl
 
-pub returns-then-not-is-tied : goal.returns-then-not-is-tied
-returns-then-not-is-tied c = λ known.
+pub returns-then-not-is_tied : goal.returns-then-not-is_tied
+returns-then-not-is_tied c = λ known.
     let here = at_through tied_view _ c.args.yeses.now c.loop-yes.yes-index c.yes-item.result c.loop-yes-test.true c.yes-item.is known in
-    sym (fails_through tied_view _ c.args.yeses.now c.loop-yes.yes-index c.yes-item.result c.loop-yes-test.true c.yes-item.is (sym (c.if-not-is-tied.ensures here)))
+    sym (fails_through tied_view _ c.args.yeses.now c.loop-yes.yes-index c.yes-item.result c.loop-yes-test.true c.yes-item.is (sym (c.if-not-is_tied.ensures here)))
 
 pub loop-yes-preserved : goal.loop-yes-preserved
 loop-yes-preserved c = λ known.
     let here = at_through tied_view _ c.args.yeses.now c.loop-yes.yes-index c.yes-item.result c.loop-yes-test.true c.yes-item.is known in
-    each_through tied_view _ c.args.yeses.now c.loop-yes.yes-index c.yes-item.result c.loop-yes-test.true c.yes-item.is (c.loop-yes.invariant known) (sym (c.if-not-is-tied.ensures here))
+    each_through tied_view _ c.args.yeses.now c.loop-yes.yes-index c.yes-item.result c.loop-yes-test.true c.yes-item.is (c.loop-yes.invariant known) (sym (c.if-not-is_tied.ensures here))
 
 pub returns : goal.returns
 returns c = λ known.

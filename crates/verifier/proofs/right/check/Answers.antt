@@ -16,41 +16,41 @@ use Rattle.verifier.proofs.right.check.Goals as goal
 pub returns-then-not-same : goal.returns-then-not-same
 unfolding verdict_on
 returns-then-not-same c =
-    let last = ap (λ (m : Mac). m.bytes) (c.last-last.ensures c.args.shown.ticket.mac) ∙ c.ticket-macs-macs.ensures c.args.shown.ticket.mac in
+    let last = ap (λ (m : Mac). m.bytes) (c.last-last.ensures c.args.shown.ticket.mac) ∙ c.ticket_macs-macs.ensures c.args.shown.ticket.mac in
     let mac = same_decides c.same.result c.last-last.result.bytes c.args.shown.ticket.mac.bytes _ c.same.ensures last in
     cond-false (right_mac (secrets c.args.book.now) (ticket_view c.args.shown.ticket)) _ _ (sym mac ∙ c.if-not-same.true)
 
-pub returns-then-not-all-known : goal.returns-then-not-all-known
+pub returns-then-not-all_known : goal.returns-then-not-all_known
 unfolding verdict_on
-returns-then-not-all-known c =
-    let last = ap (λ (m : Mac). m.bytes) (c.last-last.ensures c.args.shown.ticket.mac) ∙ c.ticket-macs-macs.ensures c.args.shown.ticket.mac in
+returns-then-not-all_known c =
+    let last = ap (λ (m : Mac). m.bytes) (c.last-last.ensures c.args.shown.ticket.mac) ∙ c.ticket_macs-macs.ensures c.args.shown.ticket.mac in
     let mac = same_decides c.same.result c.last-last.result.bytes c.args.shown.ticket.mac.bytes _ c.same.ensures last in
     let s = secrets c.args.book.now in
     let v = shown_view c.args.shown in
-    let lent = ap (λ (ys : List TiedYes). known_keys s (map tied_view ys)) c.as-slice.ensures.value in
-    cond-true (right_mac s v.ticket) _ _ (sym mac ∙ c.if-not-same.false) ∙ cond-false (known_keys s v.yeses) _ _ (sym lent ∙ sym c.if-not-all-known.ensures)
+    let lent = ap (λ (ys : List TiedYes). known_keys s (map tied_view ys)) c.as_slice.ensures.value in
+    cond-true (right_mac s v.ticket) _ _ (sym mac ∙ c.if-not-same.false) ∙ cond-false (known_keys s v.yeses) _ _ (sym lent ∙ sym c.if-not-all_known.ensures)
 
-pub returns-then-not-all-tied : goal.returns-then-not-all-tied
+pub returns-then-not-all_tied : goal.returns-then-not-all_tied
 unfolding verdict_on
-returns-then-not-all-tied c =
-    let last = ap (λ (m : Mac). m.bytes) (c.last-last.ensures c.args.shown.ticket.mac) ∙ c.ticket-macs-macs.ensures c.args.shown.ticket.mac in
+returns-then-not-all_tied c =
+    let last = ap (λ (m : Mac). m.bytes) (c.last-last.ensures c.args.shown.ticket.mac) ∙ c.ticket_macs-macs.ensures c.args.shown.ticket.mac in
     let mac = same_decides c.same.result c.last-last.result.bytes c.args.shown.ticket.mac.bytes _ c.same.ensures last in
     let s = secrets c.args.book.now in
     let v = shown_view c.args.shown in
-    let known : known_keys s v.yeses ≡ true = ap (λ (ys : List TiedYes). known_keys s (map tied_view ys)) (sym c.as-slice.ensures.value) ∙ sym c.if-not-all-known.ensures in
-    let lent : known_keys s (map tied_view c.as-slice-2.result.now) ≡ true = ap (λ (ys : List TiedYes). known_keys s (map tied_view ys)) c.as-slice-2.ensures.value ∙ known in
+    let known : known_keys s v.yeses ≡ true = ap (λ (ys : List TiedYes). known_keys s (map tied_view ys)) (sym c.as_slice.ensures.value) ∙ sym c.if-not-all_known.ensures in
+    let lent : known_keys s (map tied_view c.as_slice-2.result.now) ≡ true = ap (λ (ys : List TiedYes). known_keys s (map tied_view ys)) c.as_slice-2.ensures.value ∙ known in
     let ties : false ≡ right_ties s v.ticket.of v.yeses =
-    c.if-not-all-tied.ensures lent ∙ (ap (λ (ys : List TiedYes). tied_to s c.last-last.result.bytes (map tied_view ys)) c.as-slice-2.ensures.value ∙ tied_terms s v.ticket.of c.last-last.result.bytes v.yeses last) in
+    c.if-not-all_tied.ensures lent ∙ (ap (λ (ys : List TiedYes). tied_to s c.last-last.result.bytes (map tied_view ys)) c.as_slice-2.ensures.value ∙ tied_terms s v.ticket.of c.last-last.result.bytes v.yeses last) in
     cond-true (right_mac s v.ticket) _ _ (sym mac ∙ c.if-not-same.false) ∙ (cond-true (known_keys s v.yeses) _ _ known ∙ cond-false (right_ties s v.ticket.of v.yeses) _ _ (sym ties))
 
 pub returns : goal.returns
 returns c =
-    let last = ap (λ (m : Mac). m.bytes) (c.last-last.ensures c.args.shown.ticket.mac) ∙ c.ticket-macs-macs.ensures c.args.shown.ticket.mac in
+    let last = ap (λ (m : Mac). m.bytes) (c.last-last.ensures c.args.shown.ticket.mac) ∙ c.ticket_macs-macs.ensures c.args.shown.ticket.mac in
     let mac = same_decides c.same.result c.last-last.result.bytes c.args.shown.ticket.mac.bytes _ c.same.ensures last in
     let s = secrets c.args.book.now in
     let v = shown_view c.args.shown in
-    let known : known_keys s v.yeses ≡ true = ap (λ (ys : List TiedYes). known_keys s (map tied_view ys)) (sym c.as-slice.ensures.value) ∙ sym c.if-not-all-known.ensures in
-    let lent : known_keys s (map tied_view c.as-slice-2.result.now) ≡ true = ap (λ (ys : List TiedYes). known_keys s (map tied_view ys)) c.as-slice-2.ensures.value ∙ known in
+    let known : known_keys s v.yeses ≡ true = ap (λ (ys : List TiedYes). known_keys s (map tied_view ys)) (sym c.as_slice.ensures.value) ∙ sym c.if-not-all_known.ensures in
+    let lent : known_keys s (map tied_view c.as_slice-2.result.now) ≡ true = ap (λ (ys : List TiedYes). known_keys s (map tied_view ys)) c.as_slice-2.ensures.value ∙ known in
     let ties : true ≡ right_ties s v.ticket.of v.yeses =
-    c.if-not-all-tied.ensures lent ∙ (ap (λ (ys : List TiedYes). tied_to s c.last-last.result.bytes (map tied_view ys)) c.as-slice-2.ensures.value ∙ tied_terms s v.ticket.of c.last-last.result.bytes v.yeses last) in
+    c.if-not-all_tied.ensures lent ∙ (ap (λ (ys : List TiedYes). tied_to s c.last-last.result.bytes (map tied_view ys)) c.as_slice-2.ensures.value ∙ tied_terms s v.ticket.of c.last-last.result.bytes v.yeses last) in
     (refl, record { mac = sym mac ∙ c.if-not-same.false; known = known; ties = sym ties })

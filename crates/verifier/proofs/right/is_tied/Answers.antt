@@ -9,6 +9,6 @@ use Rattle.verifier.proofs.right.is_tied.Goals as goal
 
 pub returns : goal.returns
 returns c = λ known.
-    let mac = c.yes-mac.ensures ∙ yes_chained (secrets c.args.book.now) (yes_body c.args.yes.now.body) c.in-Some.secret.bytes (sym c.in-Some.ensures) in
+    let mac = c.yes_mac.ensures ∙ yes_chained (secrets c.args.book.now) (yes_body c.args.yes.now.body) c.in-Some.secret.bytes (sym c.in-Some.ensures) in
     same_decides c.same.result c.tie.result.bytes c.args.yes.now.tie.bytes _ c.same.ensures
     (c.tie.ensures ∙ ap (λ (b : Bytes). hmac_of c.args.ticket.bytes (tie_message b)) mac)

@@ -7,8 +7,8 @@ use Rattle.verifier.proofs.right.yes_mac.Goals as goal
 
 pub returns : goal.returns
 returns c =
-    let count = c.work-out.ensures.count in
+    let count = c.work_out.ensures.count in
     let d = c.args.secret in
     ap (λ (m : Mac). m.bytes) (c.last.ensures d) ∙
-    (c.work-out.ensures.each c.work-out.result.count d (omega arith) ∙
-    (chained_all _ (rows c.args.yes.now.limits) c.work-out.result.count (omega arith) ∙ chained_first c.args.secret.bytes yes_message (rows c.args.yes.now.limits) _ c.mac.ensures))
+    (c.work_out.ensures.each c.work_out.result.count d (omega arith) ∙
+    (chained_all _ (rows c.args.yes.now.limits) c.work_out.result.count (omega arith) ∙ chained_first c.args.secret.bytes yes_message (rows c.args.yes.now.limits) _ c.mac.ensures))

@@ -9,15 +9,15 @@ pub returns-then-count-eq8 : goal.returns-then-count-eq8
 returns-then-count-eq8 c =
     list_fails c.args.word.now _ (too_many c.loop-part.invariant c.next.new.self c.in-Some.part c.in-Some.ensures.steps c.if-count-eq8.true)
 
-pub returns-in-err-list : goal.returns-in-err-list
-returns-in-err-list c =
-    exits c.from-residual.result _ _ c.from-residual.ensures.1
+pub returns-in_err-list : goal.returns-in_err-list
+returns-in_err-list c =
+    exits c.from_residual.result _ _ c.from_residual.ensures.1
     ∙ list_fails c.args.word.now _
-    (no_number c.loop-part.invariant c.next.new.self c.in-Some.part c.in-Some.ensures.steps (omega (arith, c.loop-part.invariant.room, c.if-count-eq8.false)) _ c.in-err-list.ensures)
+    (no_number c.loop-part.invariant c.next.new.self c.in-Some.part c.in-Some.ensures.steps (omega (arith, c.loop-part.invariant.room, c.if-count-eq8.false)) _ c.in_err-list.ensures)
 
 pub loop-part-preserved : goal.loop-part-preserved
 loop-part-preserved c =
-    one_more c.loop-part.invariant c.next.new.self c.in-Some.part c.in-Some.ensures.steps (omega (arith, c.loop-part.invariant.room, c.if-count-eq8.false)) _ c.in-ok-list.ensures
+    one_more c.loop-part.invariant c.next.new.self c.in-Some.part c.in-Some.ensures.steps (omega (arith, c.loop-part.invariant.room, c.if-count-eq8.false)) _ c.in_ok-list.ensures
 
 pub returns-in-Some-new : goal.returns-in-Some-new
 returns-in-Some-new c =

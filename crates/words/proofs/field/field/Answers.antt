@@ -3,13 +3,13 @@ use Rattle.words.proofs.Fields.{no_field, no_number, number_is}
 use Rattle.texts.proofs.Steps.{exits}
 use Rattle.words.proofs.field.field.Goals as goal
 
-pub returns-in-err-word : goal.returns-in-err-word
-returns-in-err-word c = exits c.from-residual.result _ _ c.from-residual.ensures.1 ∙ no_field c.args.label.now _ 65535 _ c.in-err-word.ensures
+pub returns-in_err-word : goal.returns-in_err-word
+returns-in_err-word c = exits c.from_residual.result _ _ c.from_residual.ensures.1 ∙ no_field c.args.label.now _ 65535 _ c.in_err-word.ensures
 
-pub returns-in-err-number : goal.returns-in-err-number
-returns-in-err-number c =
-    exits c.from-residual-in-err-number.result _ _ c.from-residual-in-err-number.ensures.1
-    ∙ no_number c.args.label.now _ 65535 _ _ c.in-ok-word.ensures _ c.in-err-number.ensures
+pub returns-in_err-number : goal.returns-in_err-number
+returns-in_err-number c =
+    exits c.from_residual-in_err-number.result _ _ c.from_residual-in_err-number.ensures.1
+    ∙ no_number c.args.label.now _ 65535 _ _ c.in_ok-word.ensures _ c.in_err-number.ensures
 
 pub returns : goal.returns
-returns c = number_is c.args.label.now _ 65535 _ _ c.in-ok-word.ensures _ c.in-ok-number.ensures
+returns c = number_is c.args.label.now _ 65535 _ _ c.in_ok-word.ensures _ c.in_ok-number.ensures

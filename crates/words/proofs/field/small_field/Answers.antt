@@ -3,13 +3,13 @@ use Rattle.words.proofs.Fields.{no_field, no_number, number_is}
 use Rattle.texts.proofs.Steps.{exits}
 use Rattle.words.proofs.field.small_field.Goals as goal
 
-pub returns-in-err-word : goal.returns-in-err-word
-returns-in-err-word c = exits c.from-residual.result _ _ c.from-residual.ensures.1 ∙ no_field c.args.label.now _ 255 _ c.in-err-word.ensures
+pub returns-in_err-word : goal.returns-in_err-word
+returns-in_err-word c = exits c.from_residual.result _ _ c.from_residual.ensures.1 ∙ no_field c.args.label.now _ 255 _ c.in_err-word.ensures
 
-pub returns-in-err-small-number : goal.returns-in-err-small-number
-returns-in-err-small-number c =
-    exits c.from-residual-in-err-small-number.result _ _ c.from-residual-in-err-small-number.ensures.1
-    ∙ no_number c.args.label.now _ 255 _ _ c.in-ok-word.ensures _ c.in-err-small-number.ensures
+pub returns-in_err-small_number : goal.returns-in_err-small_number
+returns-in_err-small_number c =
+    exits c.from_residual-in_err-small_number.result _ _ c.from_residual-in_err-small_number.ensures.1
+    ∙ no_number c.args.label.now _ 255 _ _ c.in_ok-word.ensures _ c.in_err-small_number.ensures
 
 pub returns : goal.returns
-returns c = number_is c.args.label.now _ 255 _ _ c.in-ok-word.ensures _ c.in-ok-small-number.ensures
+returns c = number_is c.args.label.now _ 255 _ _ c.in_ok-word.ensures _ c.in_ok-small_number.ensures

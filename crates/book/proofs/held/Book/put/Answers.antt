@@ -7,12 +7,12 @@ use Rattle.book.proofs.Apart.{apart_push}
 use Rattle.book.proofs.Tabled.{tabled_push}
 use Rattle.book.proofs.held.Book.put.Goals as goal
 
-pub invariant-of-self-2 : goal.invariant-of-self-2
-invariant-of-self-2 c =
+pub invariant_of-self-2 : goal.invariant_of-self-2
+invariant_of-self-2 c =
     let self = c.args.self.now in
     let key = c.args.key in
     let ks = keys_view (vec_items self.keys) in
-    let longer : keys_view (vec_items c.push.new.self) ≡ ks ++ key_view key ∷ [] = ap keys_view c.in-ok-push.ensures.items ∙ map_push key_view (vec_items self.keys) key in
+    let longer : keys_view (vec_items c.push.new.self) ≡ ks ++ key_view key ∷ [] = ap keys_view c.in_ok-push.ensures.items ∙ map_push key_view (vec_items self.keys) key in
     let at = c.get.ensures in
     let inside : c.get.result < length self.secrets.items = omega (arith, at, key.number.known, self.size, self.secrets.ok.0) in
     let free : taken ks c.get.result ≡ false = ap (taken ks) at ∙ c.requires in
@@ -25,5 +25,5 @@ pub returns : goal.returns
 returns c =
     let self = c.args.self.now in
     let longer : keys_view (vec_items c.push.new.self) ≡ keys_view (vec_items self.keys) ++ key_view c.args.key ∷ [] =
-    ap keys_view c.in-ok-push.ensures.items ∙ map_push key_view (vec_items self.keys) c.args.key in
+    ap keys_view c.in_ok-push.ensures.items ∙ map_push key_view (vec_items self.keys) c.args.key in
     ap (λ (ks : List KeyView). record { house = self.house.bytes; keys = ks }) longer

@@ -12,39 +12,39 @@ use Rattle.codec.proofs.Combined.{fixed_join}
 use Rattle.codec.proofs.Steps.{fixed_short, behind_on, behind_other, named_on, named_stop, both_first, both_second, both_on, only_on, only_other, only_stop}
 use Rattle.codec.proofs.bodies.TicketBodyCoded.read.Goals as goal
 
-pub returns-in-err-read-kind : goal.returns-in-err-read-kind
-returns-in-err-read-kind c =
-    let p = err_from_is_err_and c.from-residual.result c.from-residual.ensures.1 in
-    let q = c.in-err-read-kind.ensures in
+pub returns-in_err-read_kind : goal.returns-in_err-read_kind
+returns-in_err-read_kind c =
+    let p = err_from_is_err_and c.from_residual.result c.from_residual.ensures.1 in
+    let q = c.in_err-read_kind.ensures in
     rw (p.1, p.2) (behind_other _ ticket_kind c.args.reader.now.rest.now q.1 ∙ ap Err (sym q.0))
 
-pub returns-in-default : goal.returns-in-default
-returns-in-default c = behind_on _ ticket_kind _ _ c.in-ok-read-kind.ensures ∙ named_stop _ _ _ _ _ (both_first _ _ _ _ (fixed_short number_length _ c.in-default.ensures.0))
+pub returns-in_default : goal.returns-in_default
+returns-in_default c = behind_on _ ticket_kind _ _ c.in_ok-read_kind.ensures ∙ named_stop _ _ _ _ _ (both_first _ _ _ _ (fixed_short number_length _ c.in_default.ensures.0))
 
-pub returns-in-err-lines : goal.returns-in-err-lines
+pub returns-in_err-lines : goal.returns-in_err-lines
 unfolding row
-returns-in-err-lines c =
-    let p = err_from_is_err_and c.from-residual-in-err-lines.result c.from-residual-in-err-lines.ensures.1 in
+returns-in_err-lines c =
+    let p = err_from_is_err_and c.from_residual-in_err-lines.result c.from_residual-in_err-lines.ensures.1 in
     let number = ap (fixed number_length).read c.in-Some.ensures ∙ fixed_join number_length (four_bytes c.in-Some.number) c.four.new.self.rest.now refl in
-    rw (p.1, p.2) (behind_on _ ticket_kind _ _ c.in-ok-read-kind.ensures ∙ named_stop _ _ _ _ _ (both_second _ _ _ _ _ number _ (only_stop _ _ _ _ _ c.in-err-lines.ensures)))
+    rw (p.1, p.2) (behind_on _ ticket_kind _ _ c.in_ok-read_kind.ensures ∙ named_stop _ _ _ _ _ (both_second _ _ _ _ _ number _ (only_stop _ _ _ _ _ c.in_err-lines.ensures)))
 
 pub returns-then-len-eq0 : goal.returns-then-len-eq0
 unfolding row
 returns-then-len-eq0 c =
     let number = ap (fixed number_length).read c.in-Some.ensures ∙ fixed_join number_length (four_bytes c.in-Some.number) c.four.new.self.rest.now refl in
-    behind_on _ ticket_kind _ _ c.in-ok-read-kind.ensures ∙
+    behind_on _ ticket_kind _ _ c.in_ok-read_kind.ensures ∙
     named_stop _ _ _ _ _
     (both_second _ _ _ _ _ number _
-    (only_other _ _ _ _ _ _ c.in-ok-lines.ensures.0 (le-ltb 0 (length (rows c.in-ok-lines.lines)) (omega (arith, c.len.ensures.value, c.if-len-eq0.true)))))
+    (only_other _ _ _ _ _ _ c.in_ok-lines.ensures.0 (le-ltb 0 (length (rows c.in_ok-lines.lines)) (omega (arith, c.len.ensures.value, c.if-len-eq0.true)))))
 
-pub invariant-of-result : goal.invariant-of-result
-invariant-of-result c = (ap on_ticket c.in-ok-lines.ensures.1, (omega (arith, c.len.ensures.value, c.if-len-eq0.false, row_count c.in-ok-lines.lines), tt))
+pub invariant_of-result : goal.invariant_of-result
+invariant_of-result c = (ap on_ticket c.in_ok-lines.ensures.1, (omega (arith, c.len.ensures.value, c.if-len-eq0.false, row_count c.in_ok-lines.lines), tt))
 
 pub returns : goal.returns
 unfolding row
 returns c =
     let number = ap (fixed number_length).read c.in-Some.ensures ∙ fixed_join number_length (four_bytes c.in-Some.number) c.four.new.self.rest.now refl in
-    behind_on _ ticket_kind _ _ c.in-ok-read-kind.ensures ∙
+    behind_on _ ticket_kind _ _ c.in_ok-read_kind.ensures ∙
     named_on _ _ _ _ _ _
     (both_on _ _ _ _ _ number _ _
-    (only_on _ _ _ _ _ _ c.in-ok-lines.ensures.0 (lt-ltb 0 (length (rows c.in-ok-lines.lines)) (omega (arith, c.len.ensures.value, c.if-len-eq0.false)))))
+    (only_on _ _ _ _ _ _ c.in_ok-lines.ensures.0 (lt-ltb 0 (length (rows c.in_ok-lines.lines)) (omega (arith, c.len.ensures.value, c.if-len-eq0.false)))))

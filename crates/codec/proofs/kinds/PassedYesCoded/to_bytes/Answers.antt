@@ -6,6 +6,6 @@ use Rattle.codec.proofs.kinds.PassedYesCoded.to_bytes.Goals as goal
 pub returns : goal.returns
 unfolding behind both
 returns c =
-    laid_two _ _ _ _ _ _ c.new-out.ensures.items c.in-ok-push.ensures.items
-    c.in-ok-extend-from-slice.ensures.items (c.as-slice.ensures.value ∙ c.in-ok-to-bytes.ensures)
-    _ _ _ c.in-ok-extend-from-slice-2.ensures.items (c.as-slice-2.ensures.value ∙ c.in-ok-to-bytes-2.ensures)
+    laid_two _ _ _ _ _ _ c.new-out.ensures.items c.in_ok-push.ensures.items
+    c.in_ok-extend_from_slice.ensures.items (c.as_slice.ensures.value ∙ c.in_ok-to_bytes.ensures)
+    _ _ _ c.in_ok-extend_from_slice-2.ensures.items (c.as_slice-2.ensures.value ∙ c.in_ok-to_bytes-2.ensures)

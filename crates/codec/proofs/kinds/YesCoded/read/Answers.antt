@@ -3,15 +3,15 @@ use Rattle.std.proofs.lemmas.Result.{err_from_is_err_and}
 use Rattle.codec.proofs.Steps.{maced_first, maced_second, maced_on}
 use Rattle.codec.proofs.kinds.YesCoded.read.Goals as goal
 
-pub returns-in-err-body : goal.returns-in-err-body
-returns-in-err-body c =
-    let p = err_from_is_err_and c.from-residual.result c.from-residual.ensures.1 in
-    rw (p.1, p.2) (maced_first _ _ _ c.in-err-body.ensures)
+pub returns-in_err-body : goal.returns-in_err-body
+returns-in_err-body c =
+    let p = err_from_is_err_and c.from_residual.result c.from_residual.ensures.1 in
+    rw (p.1, p.2) (maced_first _ _ _ c.in_err-body.ensures)
 
-pub returns-in-err-mac : goal.returns-in-err-mac
-returns-in-err-mac c =
-    let p = err_from_is_err_and c.from-residual-in-err-mac.result c.from-residual-in-err-mac.ensures.1 in
-    rw (p.1, p.2) (maced_second _ _ _ _ c.in-ok-body.ensures _ c.in-err-mac.ensures)
+pub returns-in_err-mac : goal.returns-in_err-mac
+returns-in_err-mac c =
+    let p = err_from_is_err_and c.from_residual-in_err-mac.result c.from_residual-in_err-mac.ensures.1 in
+    rw (p.1, p.2) (maced_second _ _ _ _ c.in_ok-body.ensures _ c.in_err-mac.ensures)
 
 pub returns : goal.returns
-returns c = maced_on _ _ _ _ c.in-ok-body.ensures _ _ c.in-ok-mac.ensures
+returns c = maced_on _ _ _ _ c.in_ok-body.ensures _ _ c.in_ok-mac.ensures

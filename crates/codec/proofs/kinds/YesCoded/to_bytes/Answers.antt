@@ -4,4 +4,4 @@ use Rattle.codec.proofs.kinds.YesCoded.to_bytes.Goals as goal
 
 pub returns : goal.returns
 unfolding fixed both named
-returns c = c.in-ok-extend-from-slice.ensures.items ∙ λ i. c.in-ok-out.ensures i ++ c.bytes.ensures i
+returns c = c.in_ok-extend_from_slice.ensures.items ∙ λ i. c.in_ok-out.ensures i ++ c.bytes.ensures i

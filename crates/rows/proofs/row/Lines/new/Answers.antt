@@ -4,9 +4,9 @@ use Rattle.rows.specs.Row.{rows}
 use Rattle.rows.specs.Wire.{wire, unwired}
 use Rattle.rows.proofs.row.Lines.new.Goals as goal
 
-pub invariant-of-result : goal.invariant-of-result
+pub invariant_of-result : goal.invariant_of-result
 unfolding wire unwired all
-invariant-of-result c = (omega arith, (refl, (λ i h. let z : i ≡ 0 = omega arith in rw z, (refl, tt))))
+invariant_of-result c = (omega arith, (refl, (λ i h. let z : i ≡ 0 = omega arith in rw z, (refl, tt))))
 
 pub returns : goal.returns
 unfolding rows unwired

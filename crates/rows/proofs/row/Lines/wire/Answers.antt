@@ -4,8 +4,8 @@ use Rattle.rows.specs.Wire.{wire}
 use Rattle.rows.proofs.Held.{row_used, row_wire, row_fits}
 use Rattle.rows.proofs.row.Lines.wire.Goals as goal
 
-pub slice-bounds-result-end : goal.slice-bounds-result-end
-slice-bounds-result-end c =
+pub slice_bounds-result-end : goal.slice_bounds-result-end
+slice_bounds-result-end c =
     let used = row_used c.args.self.now in
     let fits = row_fits c.args.self.now in
     search rules

@@ -16,9 +16,9 @@ returns c =
     let yeses = vec_items self.yeses in
     let many : c.len.result ≡ length (map tied_view yeses) = c.len.ensures ∙ (self.yeses.ok.0 ∙ sym (length-map yeses tied_view)) in
     laid_shown _ _ _ _ _ _ _ (length (map tied_view yeses)) _ (wish_bytes (wish_view self.wish)) _ (ticket.write (ticket_view self.ticket)) _ (write_several tied.write (map tied_view yeses)) _
-    c.new-out.ensures.items c.in-ok-push.ensures.items
-    c.in-ok-extend-from-slice.ensures.items (c.as-slice.ensures.value ∙ c.in-ok-wish-bytes.ensures)
-    c.in-ok-extend-from-slice-2.ensures.items (c.as-slice-2.ensures.value ∙ c.in-ok-to-bytes.ensures)
-    c.in-ok-push-2.ensures.items many
-    c.in-ok-extend-from-slice-3.ensures.items
-    (c.as-slice-4.ensures.value ∙ (c.in-ok-yeses-bytes.ensures ∙ ap (λ (ys : List TiedYes). write_several tied.write (map tied_view ys)) c.as-slice-3.ensures.value))
+    c.new-out.ensures.items c.in_ok-push.ensures.items
+    c.in_ok-extend_from_slice.ensures.items (c.as_slice.ensures.value ∙ c.in_ok-wish_bytes.ensures)
+    c.in_ok-extend_from_slice-2.ensures.items (c.as_slice-2.ensures.value ∙ c.in_ok-to_bytes.ensures)
+    c.in_ok-push-2.ensures.items many
+    c.in_ok-extend_from_slice-3.ensures.items
+    (c.as_slice-4.ensures.value ∙ (c.in_ok-yeses_bytes.ensures ∙ ap (λ (ys : List TiedYes). write_several tied.write (map tied_view ys)) c.as_slice-3.ensures.value))

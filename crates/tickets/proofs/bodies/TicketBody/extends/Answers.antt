@@ -9,9 +9,9 @@ use Rattle.std.proofs.lemmas.Bool.Decides.{Decides-eqb}
 
 pub returns-then-self-other : goal.returns-then-self-other
 returns-then-self-other c =
-    begun_wires c.args.self.now.number c.args.other.now.number (rows c.args.self.now.lines) (rows c.args.other.now.lines) c.if-self-other.true c.starts-with.result
-    (subst₂ (λ (a b : Bytes). (c.starts-with.result ≡ true → a ≡ b ++ drop (length b) a) × ((rest : Bytes) → a ≡ b ++ rest → c.starts-with.result ≡ true))
-    c.wire.ensures c.wire-then-self-other.ensures (starts_is Decides-eqb _ _ _ c.starts-with.ensures.value))
+    begun_wires c.args.self.now.number c.args.other.now.number (rows c.args.self.now.lines) (rows c.args.other.now.lines) c.if-self-other.true c.starts_with.result
+    (subst₂ (λ (a b : Bytes). (c.starts_with.result ≡ true → a ≡ b ++ drop (length b) a) × ((rest : Bytes) → a ≡ b ++ rest → c.starts_with.result ≡ true))
+    c.wire.ensures c.wire-then-self-other.ensures (starts_is Decides-eqb _ _ _ c.starts_with.ensures.value))
 
 pub returns-else-self-other : goal.returns-else-self-other
 returns-else-self-other c =

@@ -10,8 +10,8 @@ use Rattle.statements.specs.Views.{Told, stated}
 use Rattle.statements.specs.declared.Statement.{Statement}
 use Rattle.statements.specs.declared.Trouble.{Trouble}
 use Rattle.statements.specs.declared.Trouble.TheVariants.{Unreadable}
-use Rattle.script.specs.declared.Cause.TheVariants.{HouseFirst}
-use Rattle.script.specs.Rules.{uncommented, says, stops, heard_as, alone, opens, misplaced, placed, sense}
+use Rattle.scripts.specs.declared.Cause.TheVariants.{HouseFirst}
+use Rattle.scripts.specs.Rules.{uncommented, says, stops, heard_as, alone, opens, misplaced, placed, sense}
 
 -- b says whether the statement opens the house
 tested : (begun b : Bool) (s : Said) → b ≡ opens s → beq b begun ≡ misplaced begun s

@@ -1,6 +1,6 @@
 // What was read of a script, in words again.
 use lines::Line;
-use script::read_script;
+use scripts::read_script;
 use statements::{Asked, Gift, Statement};
 use std::alloc::{AllocError, Global};
 use words::Words;

@@ -4,10 +4,10 @@ use Rattle.std.specs.List.{AllByRecursion as All}
 use Rattle.std.proofs.ByRecursion.{All-append}
 use Rattle.std.proofs.lemmas.Bool.{not-false}
 use Rattle.statements.specs.Said.{Said}
-use Rattle.script.specs.declared.Cause.TheVariants.{HouseFirst}
-use Rattle.script.specs.Laws.{HouseOpensFirst}
-use Rattle.script.specs.Rules.{Sense, none, says, stops, alone, opens, misplaced, placed, sense, Outcome, some_of, outcome, lines_in, reads}
-use Rattle.script.proofs.Lines.{after}
+use Rattle.scripts.specs.declared.Cause.TheVariants.{HouseFirst}
+use Rattle.scripts.specs.Laws.{HouseOpensFirst}
+use Rattle.scripts.specs.Rules.{Sense, none, says, stops, alone, opens, misplaced, placed, sense, Outcome, some_of, outcome, lines_in, reads}
+use Rattle.scripts.proofs.Lines.{after}
 
 -- a statement that was let stand where it is
 stands : (begun : Bool) (q : Sense) (s : Said) → placed begun q ≡ says s → misplaced begun s ≡ false

@@ -1,0 +1,4 @@
+pub mod Rules
+pub mod Views
+pub mod Wording
+pub mod Laws
