@@ -14,10 +14,10 @@ use Rattle.tickets.proofs.Rightly.{right_line}
 use Rattle.tickets.proofs.Ticket.add.Goals as goal
 
 pub invariant_of-self : goal.invariant_of-self
-invariant_of-self c = (
-  ap on_ticket c.grow.ensures.place ∙ c.args.self.now.body.stands,
-  (still_some c.grow.result c.args.self.now.body.lines.place c.args.self.now.body.lines c.grow.new.lines c.args.self.now.mac.bytes c.args.line.now c.args.self.now.body.some c.grow.ensures.grown, tt),
-)
+invariant_of-self c = record {
+  stands = ap on_ticket c.grow.ensures.place ∙ c.args.self.now.body.stands;
+  some = still_some c.grow.result c.args.self.now.body.lines.place c.args.self.now.body.lines c.grow.new.lines c.args.self.now.mac.bytes c.args.line.now c.args.self.now.body.some c.grow.ensures.grown;
+}
 
 pub returns-in_err-self : goal.returns-in_err-self
 returns-in_err-self c =

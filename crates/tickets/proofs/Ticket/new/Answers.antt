@@ -22,10 +22,10 @@ returns-in_err-mac c =
     (record { value = sym (line_refused _ c.args.first.now start c.new-lines.ensures.place _ (empty ∙ c.in_err-mac.ensures.grown.0)); right = tt })
 
 pub invariant_of-body : goal.invariant_of-body
-invariant_of-body c = (
-  ap on_ticket (c.in_ok-mac.ensures.place ∙ c.new-lines.ensures.place),
-  (some_line _ _ c.args.first.now c.grow.new.lines c.in_ok-mac.ensures.grown.0, tt),
-)
+invariant_of-body c = record {
+  stands = ap on_ticket (c.in_ok-mac.ensures.place ∙ c.new-lines.ensures.place);
+  some = some_line _ _ c.args.first.now c.grow.new.lines c.in_ok-mac.ensures.grown.0;
+}
 
 pub returns : goal.returns
 unfolding new_ticket
