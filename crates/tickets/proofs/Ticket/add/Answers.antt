@@ -1,12 +1,9 @@
-use Rattle.std.proofs.Common.{◌≡◌, Ok, sym, refl, ap, ◌∙◌, subst}
+use Rattle.std.proofs.Common.{Ok, sym, ap, ◌∙◌, subst}
 use Rattle.std.proofs.lemmas.Result.{err_from_is_err_and}
 use Rattle.narrow.specs.Term.{Bytes}
-use Rattle.lines.specs.declared.Place.{Place}
 use Rattle.rows.specs.Row.{rows}
-use Rattle.tickets.specs.Making as making
 use Rattle.tickets.specs.Places.{on_ticket}
 use Rattle.tickets.specs.Made.{ATicket, Right}
-use Rattle.tickets.specs.declared.Ticket.{Ticket}
 use Rattle.tickets.specs.declared.bodies.TicketBody.{TicketBody}
 use Rattle.tickets.specs.Views.{ticket_view, ticket_body}
 use Rattle.tickets.proofs.Changed.{ticket_place, still_some, ticket_back, line_grown, line_refused}

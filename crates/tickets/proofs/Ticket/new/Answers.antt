@@ -1,11 +1,10 @@
-use Rattle.std.proofs.Common.{◌≡◌, List, Ok, sym, refl, ap, ◌∙◌, subst}
+use Rattle.std.proofs.Common.{◌≡◌, List, Ok, sym, ap, ◌∙◌}
 use Rattle.std.proofs.lemmas.Result.{err_from_is_err_and}
 use Rattle.narrow.specs.Term.{Bytes}
 use Rattle.numbers.specs.Bytes.{four_bytes}
 use Rattle.hmac.specs.Hmac.{hmac_of}
 use Rattle.rows.specs.Row.{rows}
 use Rattle.rows.specs.Standing.{pushed}
-use Rattle.tickets.specs.Making as making
 use Rattle.tickets.specs.Making.{number_maced, new_ticket}
 use Rattle.tickets.specs.Places.{on_ticket}
 use Rattle.tickets.proofs.Changed.{some_line, line_grown, line_refused}
