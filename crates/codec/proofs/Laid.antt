@@ -1,5 +1,5 @@
 -- What is laid down piece by piece. Assumes nothing.
-use Rattle.std.proofs.Common.{◌≡◌, ℕ, List, [], ◌∷◌, ◌++◌, ap, ◌∙◌, append_assoc}
+use Rattle.std.proofs.Common.{◌≡◌, ℕ, [], ◌∷◌, ◌++◌, ap, ◌∙◌, append_assoc}
 use Rattle.narrow.specs.Term.{Bytes}
 
 module _ (out0 out1 out2 : Bytes) (k : ℕ) (head head' : Bytes) (none : out0 ≡ []) (kind : out1 ≡ out0 ++ k ∷ []) (front : out2 ≡ out1 ++ head') (is : head' ≡ head) where

@@ -1,7 +1,6 @@
-use Rattle.std.proofs.Common.{◌≡◌, length, Ok, Err, sym, refl, ap, ◌∙◌, arith}
+use Rattle.std.proofs.Common.{length, Err, sym, refl, ap, ◌∙◌, arith}
 use Rattle.std.proofs.lemmas.Result.{err_from_is_err_and}
 use Rattle.std.proofs.lemmas.Bool.{lt-ltb, le-ltb}
-use Rattle.lines.specs.declared.Place.TheVariants.{Ticket}
 use Rattle.rows.specs.Row.{rows}
 use Rattle.rows.proofs.Held.{row_count}
 use Rattle.tickets.specs.Places.{on_ticket}
