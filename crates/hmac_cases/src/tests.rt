@@ -204,6 +204,6 @@ fn debug_shows_no_bytes(rt: HostRuntime) -> Result<(), Fail> {
     let mac = key(b"a");
     let kept = Key::new(mac);
     let shown = format!(in rt.alloc(); "{mac:?} {kept:?}")?;
-    assert!(rt; shown.as_bytes() == b"Mac(..) Key(..)");
+    assert!(rt; shown.as_bytes() == b"Mac(..) Key(..)".as_slice());
     Ok(())
 }
