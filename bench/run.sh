@@ -3,9 +3,8 @@
 # It needs a C compiler, libssl-dev and libsodium-dev.
 set -eu
 cd "$(dirname "$0")/.."
-rt staticlib hmac_c >/dev/null
-runtime=$(dirname "$(dirname "$(rt doc)")")/lib/librattle_c.a
+(cd crates/hmac_c && rt lib >/dev/null)
 out=target/bench
 mkdir -p "$out"
-cc -O2 -Wall bench/bench.c target/staticlib/libhmac_c.a "$runtime" -o "$out/hmac" -lcrypto -lsodium
+cc -O2 -Wall bench/bench.c crates/hmac_c/out/libhmac_c.a -o "$out/hmac" -lcrypto -lsodium
 "$out/hmac"

@@ -3,7 +3,7 @@ use Rattle.std.specs.Prelude.{ℕ, cond, ◌&&◌, List, [], ◌∷◌, drop, So
 use Rattle.std.specs.Bool.{then_some}
 use Rattle.std.specs.Option.{ok_or}
 use Rattle.narrow.specs.Can.{same_bytes}
-use Rattle.numbers.specs.Places.{number}
+use Rattle.numbers.specs.Places.{two_at}
 use Rattle.parts.specs.Limits.{MuseumIn, DayIn, MinuteIn, PersonsUpTo, NameIs, LineView, ALimit, AnElse, is_line}
 use Rattle.lines.specs.declared.Fault.{Fault}
 use Rattle.lines.specs.declared.Fault.TheVariants.{Shape, Unreadable, TooMany, Range}
@@ -20,11 +20,11 @@ fault_number Range = 4
 abbrev pub line_guess : ℕ → List ℕ → Option LineView
 line_guess kind content =
     cond (kind == museums_kind) (Some (ALimit (MuseumIn (drop 1 content))))
-    (cond (kind == days_kind) (Some (ALimit (DayIn (number content 0) (number content 2))))
-    (cond (kind == minutes_kind) (Some (ALimit (MinuteIn (number content 0) (number content 2))))
+    (cond (kind == days_kind) (Some (ALimit (DayIn (two_at content 0) (two_at content 2))))
+    (cond (kind == minutes_kind) (Some (ALimit (MinuteIn (two_at content 0) (two_at content 2))))
     (cond (kind == persons_kind) (Some (ALimit (PersonsUpTo (slice_index content 0))))
     (cond (kind == name_kind) (Some (ALimit (NameIs (drop 1 content))))
-    (cond (kind == else_kind) (Some (AnElse (number content 0))) None)))))
+    (cond (kind == else_kind) (Some (AnElse (two_at content 0))) None)))))
 
 abbrev pub if_written : List ℕ → Option LineView → Result LineView Fault
 if_written bs None = Err Shape

@@ -5,7 +5,7 @@ use Rattle.statements.specs.Said.{Said}
 use Rattle.scripts.specs.declared.Cause.{Cause}
 use Rattle.scripts.specs.declared.Cause.TheVariants.{HouseFirst}
 use Rattle.scripts.specs.declared.Fault.{Fault}
-use Rattle.scripts.specs.Laws.{heard, statements_of, Readable, First-fault, LineByLine}
+use Rattle.scripts.specs.Laws.{heard, statements_of, Readable, FirstFault, LineByLine}
 use Rattle.scripts.specs.Rules.{Sense, none, says, stops, alone, misplaced, placed, sense, Outcome, some_of, outcome, lines_in, reads}
 use Rattle.scripts.proofs.Lines.{after}
 
@@ -19,8 +19,8 @@ here_or_not begun (says s) = by (misplaced begun s)
     by true = inr refl
     by false = inl refl
 
--- `First-fault`, of lines that are numbered from n and stand after the statements past
-record Fault-after (past : List (ℕ × Said)) (n : ℕ) (ls : List (List ℕ)) (said : List (ℕ × Said)) (f : Fault) : Type 0 where
+-- `FirstFault`, of lines that are numbered from n and stand after the statements past
+record FaultAfter (past : List (ℕ × Said)) (n : ℕ) (ls : List (List ℕ)) (said : List (ℕ × Said)) (f : Fault) : Type 0 where
   before : List (List ℕ)
   here : List ℕ
   rest : List (List ℕ)
@@ -31,7 +31,7 @@ record Fault-after (past : List (ℕ × Said)) (n : ℕ) (ls : List (List ℕ)) 
   spoken : said ≡ past ++ statements_of n before
 
 abbrev Goes : List (ℕ × Said) → ℕ → List (List ℕ) → List (ℕ × Said) → Option Fault → Type 0
-Goes past n ls said stop = MatchOption stop (All Readable ls × (said ≡ past ++ statements_of n ls)) (Fault-after past n ls said)
+Goes past n ls said stop = MatchOption stop (All Readable ls × (said ≡ past ++ statements_of n ls)) (FaultAfter past n ls said)
 
 -- one line more in front, which can be read
 longer : (past : List (ℕ × Said)) (n : ℕ) (l : List ℕ) (ls : List (List ℕ)) (said : List (ℕ × Said)) (stop : Option Fault) → Readable l → Goes (past ++ heard n (alone l)) (n + 1) ls said stop → Goes past n (l ∷ ls) said stop

@@ -2,7 +2,7 @@
 use Rattle.std.specs.Prelude.{ℕ, List, ◌++◌, take, drop, Option, slice_index}
 use Rattle.std.specs.Bool.{then_some}
 use Rattle.narrow.specs.Can.{same_bytes}
-use Rattle.numbers.specs.Places.{number}
+use Rattle.numbers.specs.Places.{two_at}
 use Rattle.parts.specs.Limits.{WishView}
 use Rattle.wishes.specs.Format.{wish_bytes}
 
@@ -11,8 +11,8 @@ abbrev pub wish_guess : List ℕ → WishView
 wish_guess bs =
     record {
       museum = slice_index bs 1;
-      day = number bs 2;
-      minute = number bs 4;
+      day = two_at bs 2;
+      minute = two_at bs 4;
       persons = slice_index bs 6;
       name = take (slice_index bs 7) (drop 8 bs);
     }
