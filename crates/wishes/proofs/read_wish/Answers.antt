@@ -26,8 +26,8 @@ returns-in_default-read_two-2 c =
     wish_too_short c.args.bytes.now
     (omega (arith, c.in_default-read_two-2.ensures, after_two_length c.args.bytes.now, ap length c.in-Some.ensures))
 
-pub returns-in_default-default : goal.returns-in_default-default
-returns-in_default-default c =
+pub returns-in_default-rest : goal.returns-in_default-rest
+returns-in_default-rest c =
     let short : length c.in-Some-read_two.rest.now < 2 = search rules in
     wish_too_short c.args.bytes.now
     (omega (arith, after_two_length c.args.bytes.now, ap length c.in-Some.ensures, ap length c.in-Some-read_two.ensures))
