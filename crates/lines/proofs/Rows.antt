@@ -13,7 +13,7 @@ one_only (x ∷ []) h = refl
 one_only (x ∷ y ∷ xs) h = absurd (omega arith)
 
 -- what `contains` answers
-pub contains_is : (x : ℕ) (xs ys : List ℕ) (r : Bool) → ys ≡ xs → IsAnyAnswer (λ y t. Decides t (y ≡ x)) ys r → r ≡ any (λ m. eqb m x) xs
+pub contains_is : (x : ℕ) (xs ys : List ℕ) (r : Bool) → ys ≡ xs → IsAnyAnswer (λ y t. eqb y x ≡ t) ys r → r ≡ any (λ m. eqb m x) xs
 unfolding any
 contains_is x xs ys r e h =
     same_from_decides r (any (λ m. eqb m x) xs) (contains_decides eqb Decides-eqb xs x r (rw e at h))

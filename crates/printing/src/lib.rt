@@ -65,7 +65,7 @@ impl fmt::Display for Words<Wish> {
 }
 
 fn write_list<W: fmt::Write>(numbers: &[u8], f: &mut fmt::Formatter<W>) -> fmt::Result
-    ensures { WritesOnOk write_str_gives f.old result (list_words numbers.now) f.new }
+    ensures { WritesOnOk W.write_str_gives f.old result (list_words numbers.now) f.new }
 {
     let [first, rest @ ..] = numbers else {
         return Ok(());

@@ -12,10 +12,10 @@ pub loop-number-preserved : goal.loop-number-preserved
 loop-number-preserved g c =
     λ plain. let old = c.loop-number.invariant plain in
     one_more g.W.Write.write_str_gives c.write.new.self c.loop-number.f c.write-in-loop-number.new.self _ c.loop-number.number-index c.loop-number-test.true old
-    (c.in_ok-write-2.ensures.shows old.plain refl)
+    (c.in_ok-write-2.ensures.writes old.plain refl)
 
 pub returns : goal.returns
 returns g c =
-    λ plain ok. let first = c.in_ok-write.ensures.shows plain refl in
+    λ plain ok. let first = c.in_ok-write.ensures.writes plain refl in
     whole_list g.W.Write.write_str_gives c.args.f.now c.write.new.self c.loop-number.f c.args.numbers.now c.loop-number.number-index (omega (arith, ltb-true, ltb-false)) c.loop-number-test.false first
     (c.loop-number.invariant first.plain)

@@ -6,7 +6,7 @@ use Rattle.rows.proofs.row.Lines.new.Goals as goal
 
 pub invariant_of-result : goal.invariant_of-result
 unfolding wire unwired all
-invariant_of-result c = (omega arith, (refl, (λ i h. let z : i ≡ 0 = omega arith in rw z, (refl, tt))))
+invariant_of-result c = record { few = omega arith; wired = refl; marked = λ i h. let z : i ≡ 0 = omega arith in rw z; legible = refl }
 
 pub returns : goal.returns
 unfolding rows unwired

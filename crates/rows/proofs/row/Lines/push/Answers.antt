@@ -57,7 +57,7 @@ invariant_of-self c =
     let most = most_few c.args.self.now.place in
     let room = c.most_lines.ensures in
     let a = longer c.args.self.now c.args.line.now (omega arith) good _ _ c.put_line-size.new.out _ c.put_line-size.ensures.after c.put_line-size.ensures.value in
-    (omega arith, (a.wired, (a.marked, (a.legible, tt))))
+    record { few = omega arith; wired = a.wired; marked = a.marked; legible = a.legible }
 
 pub returns : goal.returns
 unfolding rows
