@@ -5,7 +5,7 @@ use Rattle.std.specs.List.{AllByRecursion as All}
 use Rattle.scripts.specs.declared.Cause.{Cause}
 use Rattle.scripts.specs.declared.Fault.{Fault}
 use Rattle.statements.specs.Said.{Said}
-use Rattle.scripts.specs.Rules.{lines_in, Sense, none, says, stops, alone, opens, sense, Outcome, some_of, reads}
+use Rattle.scripts.specs.Rules.{Sense, none, says, stops, alone, opens, sense, Outcome, some_of, reads}
 
 -- ---- a script says what its lines say, each read by itself, up to the first that can't be read
 
@@ -25,7 +25,7 @@ abbrev pub Readable : List ℕ → Type 0
 Readable l = (c : Cause) → alone l ≢ stops c
 
 -- the fault stands at the first line that is not read, and the statements are those before it
-pub record First-fault (ls : List (List ℕ)) (said : List (ℕ × Said)) (f : Fault) : Type 0 where
+pub record FirstFault (ls : List (List ℕ)) (said : List (ℕ × Said)) (f : Fault) : Type 0 where
   pub before : List (List ℕ)
   pub here : List ℕ
   pub after : List (List ℕ)
@@ -37,7 +37,7 @@ pub record First-fault (ls : List (List ℕ)) (said : List (ℕ × Said)) (f : F
 
 -- what a script comes to, line by line
 abbrev pub LineByLine : List (List ℕ) → Outcome → Type 0
-LineByLine ls o = MatchOption o.stop (All Readable ls × (o.said ≡ statements_of 1 ls)) (First-fault ls o.said)
+LineByLine ls o = MatchOption o.stop (All Readable ls × (o.said ≡ statements_of 1 ls)) (FirstFault ls o.said)
 
 -- ---- a comment says nothing: the script without it comes to the same
 
