@@ -1,5 +1,5 @@
 -- Formats that are made of exact ones are exact. Assumes nothing.
-use Rattle.std.proofs.Common.{◌≡◌, ℕ, zero, suc, ◌≤◌, Bool, true, false, cond, ◌&&◌, eqb, ltb, leb, ◌⊎◌, List, [], ◌∷◌, ◌++◌, length, take, drop, Some, None, Ok, Err, Option, Result, sym, refl, ap, ◌∙◌, inl, inr, append_assoc, arith, length-append, take-append-drop, length-take, ltb-false, eq-eqb}
+use Rattle.std.proofs.Common.{◌≡◌, ℕ, zero, suc, Bool, true, false, cond, ◌&&◌, eqb, ltb, leb, ◌⊎◌, List, [], ◌∷◌, ◌++◌, length, take, drop, Some, None, Ok, Err, Option, Result, sym, refl, ap, ◌∙◌, inl, inr, append_assoc, arith, length-append, take-append-drop, length-take, ltb-false, eq-eqb}
 use Rattle.std.specs.Option.{ok_or}
 use Rattle.std.proofs.lemmas.List.{take_at, drop_at}
 use Rattle.std.proofs.lemmas.Bool.{and_parts, and_from, cond-true, cond-false, eqb-true, leb-true, le-leb, le-ltb}
@@ -14,13 +14,11 @@ use Rattle.lines.specs.declared.Fault.{Fault}
 use Rattle.lines.specs.declared.Fault.TheVariants.{Shape, TooMany}
 use Rattle.lines.specs.declared.Place.{Place}
 use Rattle.parts.specs.Limits.{WishView}
-use Rattle.wishes.specs.Format.{wish_bytes}
 use Rattle.numbers.specs.Places.{number}
 use Rattle.wishes.specs.Reading.{wish_of}
 use Rattle.wishes.proofs.Told.{wishes_exact, wishes_back}
 use Rattle.rows.specs.Standing.{most_at, stands}
-use Rattle.rows.specs.Rowing.{next, row_at}
-use Rattle.rows.specs.Wire.{wire}
+use Rattle.rows.specs.Rowing.{next}
 use Rattle.rows.proofs.Exactly.{next_value, next_fault, next_on, next_stop, chosen, pair_same, row_back, row_only, row_told}
 use Rattle.codec.specs.Format.{Format, fixed, two_byte, row, wish, read_behind, behind, both, only, named, read_several, write_several, read_counted, counted}
 use Rattle.codec.specs.Laws.{Exact}

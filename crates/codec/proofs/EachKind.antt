@@ -2,7 +2,7 @@
 use Rattle.std.proofs.Common.{refl}
 use Rattle.narrow.specs.Term.{mac_length}
 use Rattle.lines.specs.declared.Place.TheVariants.{Ticket, Yes}
-use Rattle.codec.specs.Format.{Format, fixed, two_byte, row}
+use Rattle.codec.specs.Format.{Format, two_byte}
 use Rattle.codec.specs.Laws.{Exact, FormatsExact}
 use Rattle.codec.specs.Things.{ticket_body_format, yes_body_format, maced, key_number, mac, ticket, yes, tied, passed, key, yes_kind, tied_kind, passed_kind, key_kind, ticket_kind, number_length}
 use Rattle.codec.proofs.Combined.{fixed_exact, two_byte_exact, row_exact, behind_exact, both_exact, only_exact, named_exact}

@@ -1,16 +1,14 @@
 -- Reading by a format, step by step. Assumes nothing.
-use Rattle.std.proofs.Common.{◌≡◌, ℕ, ◌<◌, Bool, true, false, eqb, ltb, List, [], ◌∷◌, ◌++◌, length, drop, Ok, Err, Result, sym, refl, ap, ◌∙◌, arith, eq-eqb}
+use Rattle.std.proofs.Common.{◌≡◌, ℕ, ◌<◌, Bool, true, false, eqb, ltb, [], ◌∷◌, ◌++◌, length, drop, Ok, Err, refl, ap, ◌∙◌, arith, eq-eqb}
 use Rattle.std.proofs.lemmas.Bool.{cond-true, cond-false, ne_eqb, lt-ltb}
-use Rattle.narrow.specs.Term.{Bytes, mac_length}
+use Rattle.narrow.specs.Term.{Bytes}
 use Rattle.narrow.specs.Can.{same_bytes}
 use Rattle.narrow.proofs.Can.{same_bytes_lem}
 use Rattle.numbers.specs.Bytes.{two_bytes}
 use Rattle.numbers.specs.Places.{number}
 use Rattle.lines.specs.declared.Fault.{Fault}
 use Rattle.lines.specs.declared.Fault.TheVariants.{Shape}
-use Rattle.rows.specs.Rowing.{next}
 use Rattle.rows.proofs.Exactly.{next_on, next_stop}
-use Rattle.tickets.specs.Making.{Maced}
 use Rattle.codec.specs.Format.{Format, fixed, two_byte, behind, read_behind, both, only, named}
 use Rattle.codec.specs.Things.{mac, maced}
 

@@ -1,5 +1,5 @@
 -- What is exact at the front is exact as a whole. Assumes nothing.
-use Rattle.std.proofs.Common.{◌≡◌, ℕ, true, ◌⊎◌, List, [], ◌∷◌, ◌++◌, Ok, Err, Result, sym, refl, ap, ◌∙◌, inl, inr, append-nil}
+use Rattle.std.proofs.Common.{◌≡◌, ℕ, true, ◌⊎◌, [], ◌∷◌, ◌++◌, Ok, Err, Result, sym, refl, ap, ◌∙◌, inl, inr, append-nil}
 use mathlib.Core.List.{cons≢nil}
 use Rattle.narrow.specs.Term.{Bytes}
 use Rattle.narrow.proofs.Rows.{contradiction}

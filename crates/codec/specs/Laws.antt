@@ -1,10 +1,10 @@
 -- What holds of every format here. Assumes nothing.
-use Rattle.std.specs.Prelude.{◌≡◌, true, List, [], ◌∷◌, ◌++◌, Ok, Err, ◌≢◌}
+use Rattle.std.specs.Prelude.{◌≡◌, true, [], ◌++◌, Ok, Err, ◌≢◌}
 use Rattle.narrow.specs.Term.{Bytes}
 use Rattle.lines.specs.declared.Fault.{Fault}
 use Rattle.lines.specs.declared.Fault.TheVariants.{Shape}
 use Rattle.codec.specs.Format.{Format, whole}
-use Rattle.codec.specs.Things.{ticket_body_format, ticket, yes, tied, passed, key}
+use Rattle.codec.specs.Things.{ticket, yes, tied, passed, key}
 
 -- At the front of bytes. What is written is read back as it was, whatever follows; what is read is written as just these bytes. What
 -- was read, or is at fault, is so whatever follows: only where bytes are missing, more of them may make a difference.

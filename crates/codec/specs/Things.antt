@@ -1,5 +1,5 @@
 -- The formats of all that is passed from hand to hand. Assumes nothing.
-use Rattle.std.specs.Prelude.{ℕ, List, length, nat_le, nat_lt}
+use Rattle.std.specs.Prelude.{ℕ, length, nat_le, nat_lt}
 use Rattle.narrow.specs.Term.{Bytes, mac_length}
 use Rattle.narrow.specs.Ticket as model
 use Rattle.lines.specs.declared.Fault.TheVariants.{Unreadable}

@@ -40,7 +40,7 @@ pub trait Coded {
 
 /// Reads what these bytes are as a whole. Bytes left over are the fault `Shape`.
 pub fn from_bytes<T: Coded + Drop>(bytes: &[u8]) -> Result<T, Fault>
-    ensures { MatchResult result (λ x. reads bytes.now x []) (λ f. faulty bytes.now f ⊎ LeftOver reads bytes.now f) }
+    ensures { MatchResult result (λ x. T.reads bytes.now x []) (λ f. T.faulty bytes.now f ⊎ LeftOver T.reads bytes.now f) }
 {
     let mut reader = Reader::new(bytes);
     let value = T::read(&mut reader)?;

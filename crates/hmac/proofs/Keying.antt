@@ -1,8 +1,8 @@
 -- HMAC's blocks as words: the key's two blocks, and the block of the outer hash.
 -- Assumes nothing.
-use Rattle.std.proofs.Common.{◌≡◌, ℕ, zero, suc, ◌+◌, ◌-◌, ◌*◌, ◌/◌, ◌%◌, ◌^◌, ◌<◌, ◌≤◌, List, [], ◌∷◌, ◌++◌, map, length, get_or, take, drop, replicate, sym, refl, ap, ◌∙◌, add-zero, suc-add, zero-add, add-one, arith}
-use lib.Bits.{bit_xor, xor_block, xor_lt}
-use Rattle.std.proofs.lemmas.List.{append-nil, append_assoc, length-append, length-map, map-append, get_or-map, get_or-append_right, take_all, take_more}
+use Rattle.std.proofs.Common.{◌≡◌, ℕ, ◌+◌, ◌*◌, ◌/◌, ◌^◌, ◌<◌, List, [], ◌∷◌, ◌++◌, map, length, get_or, replicate, sym, refl, ap, ◌∙◌, arith}
+use lib.Bits.{bit_xor, xor_block}
+use Rattle.std.proofs.lemmas.List.{append_assoc, length-append, length-map, map-append, get_or-map}
 use Rattle.sha256.specs.Constants.{initial}
 use Rattle.sha256.specs.Sha256.{word, words, compressed, absorbed, eight, padding, padded, bytes, sha256}
 use Rattle.hmac.specs.Hmac.{mixed, hmac_of}

@@ -1,6 +1,6 @@
 -- One lane of four MACs: four compressions make the MAC of a short message.
 -- Assumes nothing.
-use Rattle.std.proofs.Common.{◌≡◌, ℕ, zero, suc, ◌+◌, ◌*◌, ◌%◌, ◌^◌, ◌<◌, List, [], ◌∷◌, ◌++◌, map, length, get_or, replicate, sym, refl, ap, ◌∙◌, arith}
+use Rattle.std.proofs.Common.{◌≡◌, ℕ, zero, suc, ◌*◌, ◌^◌, ◌<◌, List, [], ◌∷◌, ◌++◌, map, length, get_or, replicate, sym, refl, ap, ◌∙◌, arith}
 use lib.Bits.{bit_xor}
 use lib.Lanes.{zip2}
 use Rattle.std.proofs.lemmas.List.{map-append}
@@ -11,7 +11,7 @@ use Rattle.hmac.specs.Midstates.{midstate, mac_from, Midstates}
 use Rattle.sha256.specs.Sha256.{◌⊞◌, words, schedule, rounds, compressed, bytes}
 use Rattle.hmac.proofs.Keying.{key_words, outer_block, mac_is}
 use Rattle.sha256.proofs.Laws.{compressed_length}
-use Rattle.sha256.proofs.Lists.{eight_of, eight_is}
+use Rattle.sha256.proofs.Lists.{eight_is}
 use Rattle.sha256.proofs.Padding.{short_finished}
 
 -- each word of a hash value is below 2 ^ 32

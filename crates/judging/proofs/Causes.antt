@@ -1,19 +1,18 @@
 -- What is judged is so. Assumes nothing.
-use Rattle.std.proofs.Common.{◌≡◌, ℕ, zero, suc, ◌<◌, ◌≤◌, Bool, true, false, cond, not, ◌&&◌, eqb, List, [], ◌∷◌, length, get_or, Some, None, Decides, Option, sym, refl, ap, ◌∙◌, subst, arith, MatchOption}
+use Rattle.std.proofs.Common.{◌≡◌, ℕ, zero, suc, ◌<◌, Bool, true, false, cond, not, ◌&&◌, eqb, List, [], ◌∷◌, length, get_or, Some, None, Decides, Option, sym, refl, ap, ◌∙◌, subst, arith, MatchOption}
 use mathlib.Core.List.{Memᴰ}
 use Rattle.std.specs.Option.{option_map}
-use Rattle.std.proofs.lemmas.Bool.{and_parts, and_from, eqb-true, eq-eqb, cases_lt}
+use Rattle.std.proofs.lemmas.Bool.{and_parts, and_from, eqb-true, eq-eqb}
 use Rattle.narrow.specs.Rows.{any, all}
 use Rattle.narrow.specs.Term.{Bytes}
 use Rattle.narrow.specs.Ticket.{Yes}
-use Rattle.narrow.specs.Policy.{Says, Limit, Else, Unreadable, Meaning, met, all_met, no_key, holds, serves, today}
+use Rattle.narrow.specs.Policy.{Says, Limit, Else, Unreadable, Meaning, met, no_key, holds, serves, today}
 use Rattle.narrow.proofs.Rows.{contradiction, any_in, any_from, all_at, all_from}
-use Rattle.judging.specs.declared.Ask.{Ask}
 use Rattle.judging.specs.declared.Ask.TheVariants as ask
 use Rattle.judging.specs.declared.Judgement.{Judgement}
 use Rattle.judging.specs.declared.Judgement.TheVariants.{Through, LimitFails, NoYes, NoneHolds}
 use Rattle.judging.specs.Judged.{some_yes, some_holds, says_fails, fails, first_place, placed, judged}
-use Rattle.judging.specs.Laws.{Holds, BadLimit, Lacking, Unheld, Least, Nowhere, Cause, Judges, JudgedRight}
+use Rattle.judging.specs.Laws.{Holds, BadLimit, Lacking, Unheld, Least, Nowhere, Cause, JudgedRight}
 use Rattle.judging.proofs.Searching.{first_at, first_none}
 
 -- ---- what a test decides

@@ -3,7 +3,7 @@ use Rattle.std.specs.Prelude.{ℕ, suc, Bool, true, false, cond, not, ◌&&◌, 
 use Rattle.std.specs.Option.{option_map}
 use Rattle.narrow.specs.Rows.{any}
 use Rattle.narrow.specs.Term.{Bytes}
-use Rattle.narrow.specs.Ticket.{Ticket, Yes}
+use Rattle.narrow.specs.Ticket.{Yes}
 use Rattle.narrow.specs.Policy.{Says, Limit, Else, Unreadable, Meaning, holds}
 use Rattle.judging.specs.declared.Ask.{Ask}
 use Rattle.judging.specs.declared.Ask.TheVariants as ask

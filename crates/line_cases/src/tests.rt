@@ -85,8 +85,8 @@ fn wishes_told(rt: HostRuntime) {
 fn rest_follows(rt: HostRuntime) -> Result<(), Fail> {
     let bytes = b"\x15\x03\x00\x09\x02\x58\x02\x03ada\x10\x00";
     let (raw, rest) = read_wish(bytes).ok_or("no wish")?;
-    assert!(rt; rest == b"\x10\x00");
-    assert!(rt; raw.name == b"ada");
+    assert!(rt; rest == b"\x10\x00".as_slice());
+    assert!(rt; raw.name == b"ada".as_slice());
     assert_eq!(rt;
         (raw.museum, raw.day, raw.minute, raw.persons),
         (3, 9, 600, 2)

@@ -3,9 +3,8 @@ use Rattle.std.proofs.Common.{◌≡◌, Bool, true, ◌≢◌, ◌⊎◌, List,
 use mathlib.Core.List.{Memᴰ}
 use Rattle.std.proofs.lemmas.Bool.{and_parts, cases_eq, cases_Bool}
 use Rattle.narrow.specs.Term.{Bytes, mac_length, Origin, House, KeyOf, Term, Secret, Own, Mac, Tie, Gets, macs}
-use Rattle.narrow.specs.Ticket.{terms_of, shown_terms, CanShow, Shown, ticket_mac, yes_message, tie_of, Thing, Yes}
+use Rattle.narrow.specs.Ticket.{terms_of, shown_terms, CanShow, Shown, ticket_mac, yes_message, tie_of}
 use Rattle.narrow.specs.Can.{same_bytes, can}
-use Rattle.narrow.specs.TermBytes
 use Rattle.narrow.specs.TermBytes.{Interpretation, tie_message, bytes_of, source_of, Part, itself, under, left, right, Clash, Broken, SameOrBroken, BrokenIn, ShownOrBroken, CanOrBroken, Sized, NoTie, Message, of_number, of_yes, of_line, Formatted, input_of, FormatsApart, InputsGive, ShownLines, HmacBrokenIn, CanOrHmacBroken}
 use Rattle.narrow.proofs.Rows.{contradiction, map_in, map_from}
 use Rattle.narrow.proofs.Can.{same_bytes_lem}

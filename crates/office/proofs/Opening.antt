@@ -1,5 +1,5 @@
 -- What the first statement opens. Assumes nothing.
-use Rattle.std.proofs.Common.{◌≡◌, ℕ, ◌<◌, List, [], ◌∷◌, map, length, get_or, Some, None, sym, refl, ap, ◌∙◌, arith}
+use Rattle.std.proofs.Common.{◌≡◌, ℕ, ◌<◌, List, [], ◌∷◌, map, length, get_or, Some, None, refl, ap, ◌∙◌, arith}
 use Rattle.script.specs.declared.Numbered.{Numbered}
 use Rattle.script.specs.Views.{stated, numbered}
 use Rattle.office.specs.Opened.{key_said, opened}

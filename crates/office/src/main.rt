@@ -12,6 +12,7 @@ use arguments::{Asked, read_arguments};
 use house::open;
 use reasons::{Reason, of_arguments, of_input};
 use script::{Script, read_script};
+use std::process::ExitCode;
 use std::{env, io};
 
 const USAGE: &str = "usage: office < SCRIPT
@@ -19,12 +20,14 @@ Plays a script, a statement a line; # begins a comment.
 
     house SEED    all keys are worked out from this word";
 
-fn main(rt: HostRuntime) -> Result<(), Reason> {
-    let end = run(&rt);
-    if let Err(reason) = &end {
-        let _ = rt.eprintln(*reason);
+fn main(rt: HostRuntime) -> ExitCode {
+    match run(&rt) {
+        Ok(()) => ExitCode::SUCCESS,
+        Err(reason) => {
+            let _ = rt.eprintln(reason);
+            ExitCode::FAILURE
+        }
     }
-    end
 }
 
 fn run(rt: &HostRuntime) -> Result<(), Reason> {

@@ -1,11 +1,10 @@
 -- A script says what its lines say, each read by itself, up to the first that can't be read. Assumes nothing.
-use Rattle.std.proofs.Common.{◌≡◌, ℕ, ◌+◌, Bool, true, false, cond, ◌⊎◌, List, [], ◌∷◌, ◌++◌, length, Some, None, codes, Option, sym, refl, ap, ◌∙◌, subst, inl, inr, ⊎_elim, append_assoc, append-nil, arith, MatchOption}
-use Rattle.std.specs.List.{AllByRecursion as All}
+use Rattle.std.proofs.Common.{◌≡◌, ℕ, ◌+◌, Bool, true, false, cond, ◌⊎◌, List, [], ◌∷◌, ◌++◌, length, Some, None, codes, Option, sym, refl, ap, ◌∙◌, subst, inl, inr, append_assoc, append-nil, arith, MatchOption}
+use Rattle.std.specs.List.{AllByRecursion}
 use Rattle.std.specs.Str.{bytes_eq}
-use Rattle.script.specs.declared.Cause.{Cause}
 use Rattle.script.specs.declared.Cause.TheVariants.{UnknownWord, LateHouse}
 use Rattle.script.specs.declared.Fault.{Fault}
-use Rattle.script.specs.Laws.{heard, statements_of, Readable, First-fault, LineByLine}
+use Rattle.script.specs.Laws.{heard, statements_of, Readable, LineByLine}
 use Rattle.script.specs.Rules.{words_in, Said, Sense, none, says, stops, house_sense, sense, Outcome, some_of, outcome, lines_in, reads}
 use Rattle.script.proofs.Lines.{after}
 
@@ -20,19 +19,19 @@ alone true (w ∷ ws) = late (bytes_eq w (codes "house"))
     late true = inr refl
     late false = inl refl
 
--- `First-fault`, of lines that are numbered from n and stand after the statements past
-record Fault-after (past : List (ℕ × Said)) (n : ℕ) (ls : List (List ℕ)) (said : List (ℕ × Said)) (f : Fault) : Type 0 where
+-- `FirstFault`, of lines that are numbered from n and stand after the statements past
+record FaultAfter (past : List (ℕ × Said)) (n : ℕ) (ls : List (List ℕ)) (said : List (ℕ × Said)) (f : Fault) : Type 0 where
   before : List (List ℕ)
   here : List ℕ
   rest : List (List ℕ)
   split : ls ≡ before ++ here ∷ rest
   number : f.line ≡ n + length before
-  readable : All Readable before
+  readable : AllByRecursion Readable before
   cause : sense (some_of said) (words_in here) ≡ stops f.cause
   spoken : said ≡ past ++ statements_of n before
 
 abbrev Goes : List (ℕ × Said) → ℕ → List (List ℕ) → List (ℕ × Said) → Option Fault → Type 0
-Goes past n ls said stop = MatchOption stop (All Readable ls × (said ≡ past ++ statements_of n ls)) (Fault-after past n ls said)
+Goes past n ls said stop = MatchOption stop (AllByRecursion Readable ls × (said ≡ past ++ statements_of n ls)) (FaultAfter past n ls said)
 
 -- one line more in front, which can be read
 longer : (past : List (ℕ × Said)) (n : ℕ) (l : List ℕ) (ls : List (List ℕ)) (said : List (ℕ × Said)) (stop : Option Fault) → Readable l → Goes (past ++ heard n (sense false (words_in l))) (n + 1) ls said stop → Goes past n (l ∷ ls) said stop

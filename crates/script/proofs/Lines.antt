@@ -7,7 +7,6 @@ use Rattle.std.specs.Str.Iter.{split_text, split_has_more, split_pattern, split_
 use Rattle.std.specs.Iterator.Adapters.{enumerate_source, enumerate_count}
 use Rattle.std.proofs.lemmas.List.{map_push}
 use Rattle.std.proofs.lemmas.Bool.{eqb-true, ne_eqb}
-use Rattle.script.specs.declared.Cause.{Cause}
 use Rattle.script.specs.declared.Numbered.{Numbered}
 use Rattle.script.specs.declared.reading.Reading.{Reading}
 use Rattle.script.specs.Rules.{newline, words_in, Said, Sense, none, says, stops, sense, Outcome, some_of, outcome, reads}

@@ -5,7 +5,7 @@ use Rattle.std.proofs.lemmas.Slice.Eq.{bytes_eq-Decides}
 use Rattle.std.proofs.lemmas.List.{take_rest}
 use Rattle.std.proofs.lemmas.Bool.{cases_Bool, cond-true, cond-false}
 use Rattle.script.specs.declared.Cause.TheVariants.{UnknownWord, MissingWord, TooManyWords}
-use Rattle.script.specs.Rules.{Sense, none, says, stops, house_of, house_sense, sense}
+use Rattle.script.specs.Rules.{none, says, stops, house_of, house_sense, sense}
 use Rattle.script.specs.Views.{bytes_of}
 
 pub house_alone : (b : Bool) (ws : List (Bor (List ℕ))) → b ≡ false → length ws ≡ 0 → stops MissingWord ≡ house_sense b (bytes_of ws)

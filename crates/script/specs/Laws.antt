@@ -1,10 +1,10 @@
 -- What holds of every script, above the rules that say how it is read. Assumes nothing.
 use Rattle.std.specs.Prelude.{◌≡◌, ℕ, ◌+◌, false, List, [], ◌∷◌, ◌++◌, length, MatchOption, ◌≢◌}
 use Rattle.std.specs.Str.Iter.{LacksByte}
-use Rattle.std.specs.List.{AllByRecursion as All}
+use Rattle.std.specs.List.{AllByRecursion}
 use Rattle.script.specs.declared.Cause.{Cause}
 use Rattle.script.specs.declared.Fault.{Fault}
-use Rattle.script.specs.Rules.{words_in, lines_in, Said, Sense, none, says, stops, sense, Outcome, some_of, reads}
+use Rattle.script.specs.Rules.{words_in, Said, Sense, none, says, stops, sense, Outcome, some_of, reads}
 
 -- ---- a script says what its lines say, each read by itself, up to the first that can't be read
 
@@ -24,19 +24,19 @@ abbrev pub Readable : List ℕ → Type 0
 Readable l = (c : Cause) → sense false (words_in l) ≢ stops c
 
 -- the fault stands at the first line that is not read, and the statements are those before it
-pub record First-fault (ls : List (List ℕ)) (said : List (ℕ × Said)) (f : Fault) : Type 0 where
+pub record FirstFault (ls : List (List ℕ)) (said : List (ℕ × Said)) (f : Fault) : Type 0 where
   pub before : List (List ℕ)
   pub here : List ℕ
   pub after : List (List ℕ)
   pub split : ls ≡ before ++ here ∷ after
   pub number : f.line ≡ 1 + length before
-  pub readable : All Readable before
+  pub readable : AllByRecursion Readable before
   pub cause : sense (some_of said) (words_in here) ≡ stops f.cause
   pub spoken : said ≡ statements_of 1 before
 
 -- what a script comes to, line by line
 abbrev pub LineByLine : List (List ℕ) → Outcome → Type 0
-LineByLine ls o = MatchOption o.stop (All Readable ls × (o.said ≡ statements_of 1 ls)) (First-fault ls o.said)
+LineByLine ls o = MatchOption o.stop (AllByRecursion Readable ls × (o.said ≡ statements_of 1 ls)) (FirstFault ls o.said)
 
 -- ---- a comment says nothing: the script without it comes to the same
 

@@ -1,11 +1,10 @@
 -- The hash value over blocks: where a message may be cut, and its padding.
 -- Assumes nothing.
-use Rattle.std.proofs.Common.{◌≡◌, ℕ, zero, suc, ◌+◌, ◌-◌, ◌*◌, ◌/◌, ◌%◌, ◌^◌, ◌<◌, ◌≤◌, List, [], ◌∷◌, ◌++◌, length, get_or, take, drop, set, replicate, sym, refl, ap, ◌∙◌, suc-add, zero-add, add-one, arith}
+use Rattle.std.proofs.Common.{◌≡◌, ℕ, zero, suc, ◌+◌, ◌-◌, ◌*◌, ◌/◌, ◌%◌, ◌^◌, ◌<◌, ◌≤◌, List, [], ◌∷◌, ◌++◌, length, get_or, take, drop, set, replicate, refl, ap, ◌∙◌, suc-add, zero-add, add-one, arith}
 use lib.Bits.{bit_and}
 use Rattle.std.proofs.lemmas.Nat.{and_mask, field_of, shr-shr}
-use Rattle.std.proofs.lemmas.List.{append-nil, append_assoc, length-append, length-take, length-take-le, length-drop, length-replicate, get_or-take, get_or_append_left, get_or-append_right, take-append-le, take_all, take_at, drop-append-le, drop_at, drop-drop, set_at, replicate-append-replicate, take-replicate, drop-replicate, take-append-drop}
-use Rattle.sha256.specs.Sha256.{word, words, compressed, absorbed, eight, padding, padded, sha256, bytes}
-use Rattle.sha256.specs.Blocks.{remaining, finished}
+use Rattle.std.proofs.lemmas.List.{length-append, length-take-le, length-drop, get_or_append_left, get_or-append_right, take-append-le, drop-append-le, drop_at, drop-drop, set_at, drop-replicate, take-append-drop}
+use Rattle.sha256.specs.Sha256.{word, words, compressed, absorbed, eight}
 
 -- ---- words
 pub words_length : (n : ℕ) (b : List ℕ) → length (words n b) ≡ n

@@ -1,6 +1,6 @@
 -- Words cut from lists of bytes, and the bytes of words.
 -- Assumes nothing.
-use Rattle.std.proofs.Common.{◌≡◌, ℕ, zero, suc, ◌+◌, ◌-◌, ◌*◌, ◌/◌, ◌%◌, ◌^◌, ◌<◌, ◌≤◌, List, [], ◌∷◌, ◌++◌, length, get_or, sym, refl, ap, ◌∙◌, add-zero, suc-add, zero-add, arith}
+use Rattle.std.proofs.Common.{◌≡◌, ℕ, zero, suc, ◌+◌, ◌-◌, ◌*◌, ◌/◌, ◌%◌, ◌^◌, ◌<◌, List, [], ◌∷◌, ◌++◌, length, get_or, sym, refl, ap, ◌∙◌, add-zero, suc-add, zero-add, arith}
 use Rattle.std.proofs.lemmas.List.{append-nil, append_assoc, get_or-append_right}
 use Rattle.sha256.specs.Sha256.{word, words, bytes}
 use Rattle.sha256.proofs.Lists.{eight_of, eight_is}

@@ -1,10 +1,10 @@
 -- Laws of the digest and of the padding, for callers that cite the definitions without opening them.
 -- Assumes nothing.
-use Rattle.std.proofs.Common.{◌≡◌, ℕ, zero, suc, ◌+◌, ◌-◌, ◌*◌, ◌/◌, ◌%◌, ◌<◌, ◌≤◌, List, [], ◌∷◌, ◌++◌, length, get_or, replicate, sym, refl, ap, ◌∙◌, arith}
+use Rattle.std.proofs.Common.{◌≡◌, ℕ, zero, suc, ◌*◌, ◌/◌, ◌%◌, ◌<◌, List, [], ◌∷◌, length, get_or, sym, refl, ap, ◌∙◌, arith}
 use Rattle.std.proofs.lemmas.Simd.{length-zip2}
 use Rattle.std.proofs.lemmas.List.{length-append, length-replicate}
 use Rattle.sha256.specs.Constants.{initial}
-use Rattle.sha256.specs.Sha256.{◌⊞◌, schedule, round, rounds, compressed, words, absorbed, eight, padding, padded, bytes, sha256}
+use Rattle.sha256.specs.Sha256.{◌⊞◌, schedule, round, rounds, compressed, absorbed, padding, padded, bytes, sha256}
 use Rattle.sha256.proofs.Bytes.{bytes_length}
 use Rattle.sha256.proofs.Padding.{length_eight}
 

@@ -1,8 +1,7 @@
 -- Lists of a known length, written out by their elements.
 -- Assumes nothing.
-use Rattle.std.proofs.Common.{◌≡◌, ℕ, List, [], ◌∷◌, length, get_or, sym, ap, ◌∙◌}
+use Rattle.std.proofs.Common.{◌≡◌, ℕ, List, [], ◌∷◌, length, get_or, ap, ◌∙◌}
 use lib.Lanes.{zip2}
-use Rattle.std.specs.List.{range_with_len}
 use Rattle.std.proofs.lemmas.Simd.{pick_l_whole}
 
 abbrev pub eight_of : List ℕ → List ℕ

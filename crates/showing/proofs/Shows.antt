@@ -1,5 +1,5 @@
 -- What is shown is exact. Assumes nothing.
-use Rattle.std.proofs.Common.{◌≡◌, Bool, true, false, cond, ◌⊎◌, List, [], ◌∷◌, Some, None, Ok, Err, Option, Result, sym, refl, ap, ◌∙◌, inl, inr}
+use Rattle.std.proofs.Common.{◌≡◌, true, false, ◌⊎◌, List, [], ◌∷◌, Some, None, Ok, Err, Option, Result, sym, refl, ap, ◌∙◌, inl, inr}
 use Rattle.std.specs.Option.{ok_or}
 use Rattle.std.proofs.lemmas.Bool.{cond-true, cond-false}
 use Rattle.narrow.specs.Term.{Bytes}
@@ -10,8 +10,8 @@ use Rattle.wishes.specs.Reading.{wish_of}
 use Rattle.lines.specs.declared.Fault.{Fault}
 use Rattle.lines.specs.declared.Fault.TheVariants.{Shape, Range}
 use Rattle.rows.proofs.Exactly.{next_value, next_on, next_stop, chosen}
-use Rattle.codec.specs.Format.{wish, both, counted, at_end, whole}
-use Rattle.codec.specs.Laws.{Exact, Inverse}
+use Rattle.codec.specs.Format.{wish, counted, at_end, whole}
+use Rattle.codec.specs.Laws.{Exact}
 use Rattle.codec.specs.Things.{ticket, tied}
 use Rattle.codec.proofs.Combined.{wish_exact, behind_exact, both_exact, named_exact, counted_exact}
 use Rattle.codec.proofs.EachKind.{ticket_exact, tied_exact}

@@ -1,5 +1,5 @@
 -- What the code's values stand for. Assumes nothing.
-use Rattle.std.specs.Prelude.{◌≡◌, ℕ, List, map, Ok, Err, vec_items, Result}
+use Rattle.std.specs.Prelude.{◌≡◌, map, Ok, Err, vec_items, Result}
 use Rattle.wishes.specs.Views.{wish_view}
 use Rattle.lines.specs.declared.Fault.{Fault}
 use Rattle.tickets.specs.Views.{ticket_view, tied_view}

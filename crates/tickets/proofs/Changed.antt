@@ -1,5 +1,5 @@
 -- What tickets and yeses say, through a change of their rows of lines. Assumes nothing.
-use Rattle.std.proofs.Common.{◌≡◌, ◌≤◌, true, false, List, [], ◌∷◌, ◌++◌, length, Ok, Err, Result, sym, refl, ap, ◌∙◌, arith, MatchResult}
+use Rattle.std.proofs.Common.{◌≡◌, ◌≤◌, true, List, length, Ok, Err, Result, sym, refl, ap, ◌∙◌, arith, MatchResult}
 use mathlib.Core.HLevel.{is_prop→PathP}
 use denote.Struct.Props.{props}
 use Rattle.std.specs.Result.{result_map_both}

@@ -1,9 +1,9 @@
 -- What is made of right things is right. Assumes nothing.
 use Rattle.std.proofs.Common.{◌≡◌, ℕ, ◌<◌, true, List, [], ◌∷◌, ◌++◌, length, replicate, Some, Ok, Err, Option, Result, unwrap_or, sym, refl, ap, ◌∙◌}
 use Rattle.std.specs.Result.{result_map_both}
-use Rattle.narrow.specs.Term.{Bytes, mac_length, Term, Secret, Tie, House, KeyOf, macs}
+use Rattle.narrow.specs.Term.{Bytes, mac_length, Term, Secret, House, KeyOf, macs}
 use Rattle.narrow.specs.Ticket as model
-use Rattle.narrow.specs.TermBytes.{Interpretation, bytes_of, tie_message}
+use Rattle.narrow.specs.TermBytes.{bytes_of, tie_message}
 use Rattle.narrow.proofs.Rows.{contradiction}
 use Rattle.narrow.proofs.Terms.{macs_push}
 use Rattle.hmac.specs.Hmac.{hmac_of}

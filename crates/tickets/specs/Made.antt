@@ -1,5 +1,5 @@
 -- What is right: what was made from a house's secrets by making, adding and tying. Assumes nothing.
-use Rattle.std.specs.Prelude.{◌≡◌, ℕ, List, length, replicate, Some, Ok, Option}
+use Rattle.std.specs.Prelude.{◌≡◌, ℕ, length, replicate, Some, Ok, Option}
 use Rattle.std.specs.Option.{unwrap_or}
 use Rattle.narrow.specs.Term.{Bytes, mac_length, Origin, House, KeyOf}
 use Rattle.narrow.specs.Ticket as model

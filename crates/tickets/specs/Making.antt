@@ -1,5 +1,5 @@
 -- Tickets and yeses with their MACs in bytes: making, adding and tying, by HMAC-SHA-256. Assumes nothing.
-use Rattle.std.specs.Prelude.{ℕ, List, [], ◌∷◌, Result}
+use Rattle.std.specs.Prelude.{ℕ, [], Result}
 use Rattle.std.specs.Result.{result_map_both}
 use Rattle.narrow.specs.Term.{Bytes}
 use Rattle.narrow.specs.Ticket as model

@@ -1,5 +1,5 @@
 -- An answer is given exactly if its condition holds. Assumes nothing.
-use Rattle.std.proofs.Common.{◌≡◌, ℕ, ◌≤◌, Bool, true, false, cond, ◌&&◌, eqb, ltb, leb, List, length, is_some, Ok, Err, Decides, Option, Result, sym, refl, ap, ◌∙◌, subst}
+use Rattle.std.proofs.Common.{◌≡◌, Bool, true, false, ◌&&◌, eqb, ltb, leb, List, length, is_some, Ok, Err, Decides, Result, sym, refl, ap, ◌∙◌, subst}
 use mathlib.Core.List.{Memᴰ}
 use Rattle.std.proofs.lemmas.Bool.{and_parts, and_from, cond-true, cond-false}
 use Rattle.narrow.specs.Rows.{all, any}
@@ -7,16 +7,15 @@ use Rattle.narrow.specs.Term.{Bytes}
 use Rattle.narrow.specs.Ticket as model
 use Rattle.narrow.specs.TermBytes.{bytes_of}
 use Rattle.narrow.specs.Policy.{most_lines, today, lets, all_met, serves}
-use Rattle.narrow.specs.Can.{same_bytes}
 use Rattle.narrow.proofs.Rows.{contradiction, all_at, all_from}
 use Rattle.narrow.proofs.Can.{same_bytes_lem}
 use Rattle.lines.specs.declared.Fault.{Fault}
 use Rattle.lines.specs.declared.Place.TheVariants as place
 use Rattle.lines.specs.Meaning.{says}
-use Rattle.rows.specs.Standing.{most_at, stands}
+use Rattle.rows.specs.Standing.{stands}
 use Rattle.tickets.specs.Making.{Tied}
 use Rattle.tickets.specs.Made.{Secrets, by_hmac}
-use Rattle.codec.specs.Format.{Format, fixed, row, wish, behind, both, only, named, counted}
+use Rattle.codec.specs.Format.{fixed, row, wish, behind, both, only, named, counted}
 use Rattle.judging.specs.declared.Judgement.{Judgement}
 use Rattle.judging.specs.declared.Judgement.TheVariants as judgement
 use Rattle.judging.specs.Judged.{judged}
@@ -24,12 +23,11 @@ use Rattle.judging.specs.Laws.{Cause}
 use Rattle.judging.proofs.Causes.{judged_right}
 use Rattle.showing.specs.Showing.{ShownView, shown, shown_of}
 use Rattle.showing.proofs.Shows.{shown_exact}
-use Rattle.verifier.specs.declared.Refusal.{Refusal}
 use Rattle.verifier.specs.declared.Refusal.TheVariants.{Unread, WrongMac, UnknownKey, WrongTie, LimitFails, NoYes, NoneHolds}
 use Rattle.verifier.specs.declared.Verdict.{Verdict}
 use Rattle.verifier.specs.declared.Verdict.TheVariants.{Through, Refused}
-use Rattle.verifier.specs.Verdict.{right_mac, known_keys, right_ties, untied, plainly, of_lines, by_lines, verdict_on, on_read, verdict}
-use Rattle.verifier.specs.Laws.{MacRight, AllKnown, AllTied, AllRight, LetThrough, ThroughExactly, Why, VerdictExactly}
+use Rattle.verifier.specs.Verdict.{right_mac, known_keys, right_ties, untied, of_lines, verdict_on, on_read, verdict}
+use Rattle.verifier.specs.Laws.{MacRight, AllKnown, AllTied, AllRight, ThroughExactly, Why, VerdictExactly}
 
 -- a test of a whole row decides what it decides of each
 all_decides : {A : Type 0} (f : A → Bool) (P : A → Type 0) → ((x : A) → Decides (f x) (P x)) → (xs : List A) → Decides (all f xs) ((x : A) → Memᴰ x xs → P x)

@@ -1,34 +1,30 @@
 -- A line more lets no more through, on bytes. Assumes nothing.
-use Rattle.std.proofs.Common.{◌≡◌, ℕ, ◌<◌, ◌≤◌, Bool, true, false, ◌&&◌, eqb, ltb, leb, List, [], ◌∷◌, ◌++◌, map, length, is_some, Ok, Err, Result, sym, refl, ap, ◌∙◌, subst, arith}
-use mathlib.Core.List.{Memᴰ}
+use Rattle.std.proofs.Common.{◌≡◌, ℕ, Bool, true, ◌&&◌, eqb, ltb, leb, List, [], ◌∷◌, ◌++◌, map, length, is_some, Ok, sym, refl, ap, ◌∙◌, subst, arith}
 use Rattle.std.proofs.lemmas.List.{length-map, length_push}
-use Rattle.std.proofs.lemmas.Bool.{and_parts, and_from, eq-eqb, eqb-true, le-leb, leb-true, lt-ltb, ltb-true}
+use Rattle.std.proofs.lemmas.Bool.{and_parts, and_from, eq-eqb, le-leb, lt-ltb}
 use Rattle.narrow.specs.Rows.{all}
 use Rattle.narrow.specs.Term.{Bytes}
 use Rattle.narrow.specs.Ticket as model
 use Rattle.narrow.specs.TermBytes.{bytes_of, tie_message}
 use Rattle.narrow.specs.Policy.{most_lines, most_yeses, today, lets}
-use Rattle.narrow.proofs.Rows.{map_in, map_from, all_at, all_from}
+use Rattle.narrow.proofs.Rows.{map_in, map_from}
 use Rattle.narrow.proofs.Lets.{shown_narrower, today_closed}
-use Rattle.parts.specs.Limits.{WishView, in_range}
-use Rattle.lines.specs.declared.Fault.{Fault}
+use Rattle.parts.specs.Limits.{WishView}
 use Rattle.lines.specs.declared.Place.TheVariants as place
 use Rattle.lines.specs.Meaning.{says}
 use Rattle.hmac.specs.Hmac.{hmac_of}
 use Rattle.hmac.proofs.Laws.{hmac_length}
-use Rattle.rows.specs.Standing.{pushed, most_at, stands}
-use Rattle.rows.proofs.Pushing.{push_parts}
+use Rattle.rows.specs.Standing.{stands}
 use Rattle.tickets.specs.Making as making
 use Rattle.tickets.specs.Making.{Ticket, Yes, Tied, line_added}
-use Rattle.tickets.specs.Made.{Secrets, by_hmac, Right, ATicket, AYes}
+use Rattle.tickets.specs.Made.{by_hmac}
 use Rattle.tickets.proofs.Rightly.{line_last, line_room, right_tie}
-use Rattle.codec.specs.Format.{Format, fixed, row, wish, behind, both, only, named, counted}
+use Rattle.codec.specs.Format.{fixed, row, wish, behind, both, only, named, counted}
 use Rattle.codec.specs.Things.{tied}
-use Rattle.showing.specs.Showing.{ShownView, shown, shown_of}
+use Rattle.showing.specs.Showing.{ShownView, shown}
 use Rattle.showing.proofs.Shows.{shown_exact, shown_same}
-use Rattle.verifier.specs.declared.Verdict.TheVariants.{Through}
-use Rattle.verifier.specs.Verdict.{untied, plainly, verdict}
-use Rattle.verifier.specs.Laws.{AllRight, LetThrough, showing, LineNoMore}
+use Rattle.verifier.specs.Verdict.{untied, plainly}
+use Rattle.verifier.specs.Laws.{AllRight, showing, LineNoMore}
 use Rattle.verifier.proofs.Exactly.{through_exactly}
 
 -- each yes fits tied to one ticket as it does tied to another

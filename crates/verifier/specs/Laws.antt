@@ -1,5 +1,5 @@
 -- What the house's verdict means, in words of its own. Assumes nothing.
-use Rattle.std.specs.Prelude.{◌≡◌, true, List, map, is_some, None, Ok, Err}
+use Rattle.std.specs.Prelude.{◌≡◌, true, List, map, is_some, Ok, Err}
 use mathlib.Core.List.{Memᴰ}
 use Rattle.narrow.specs.Term.{Bytes}
 use Rattle.narrow.specs.Ticket as model

@@ -1,4 +1,4 @@
-use Rattle.std.proofs.Common.{◌≡◌, List, [], ◌∷◌, length, sym, ap, ◌∙◌, subst₂, arith}
+use Rattle.std.proofs.Common.{◌≡◌, [], ◌∷◌, length, sym, subst₂, arith}
 use Rattle.std.proofs.lemmas.Bool.{eqb-true}
 use Rattle.narrow.specs.Term.{Bytes}
 use Rattle.codec.proofs.from_bytes.Goals as goal

@@ -1,4 +1,4 @@
-use Rattle.std.proofs.Common.{◌≡◌, ℕ, List, ◌++◌, length, take, drop, refl, ap, ◌∙◌, rules}
+use Rattle.std.proofs.Common.{◌≡◌, ℕ, List, ◌++◌, length, take, drop, ap, ◌∙◌, rules}
 use Rattle.hmac.specs.Hmac.{hmac_of}
 use Rattle.hmac.proofs.Laws.{hmac_length}
 use Rattle.hmac_c.proofs.Parts.{four_parts}

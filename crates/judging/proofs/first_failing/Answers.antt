@@ -1,5 +1,4 @@
-use Rattle.std.proofs.Common.{◌≡◌, [], length, sym, refl, ap, ◌∙◌, arith}
-use Rattle.narrow.specs.Term.{Bytes}
+use Rattle.std.proofs.Common.{[], sym, ap, ◌∙◌, arith}
 use Rattle.lines.specs.Meaning.{says}
 use Rattle.rows.specs.Row.{rows}
 use Rattle.wishes.specs.Views.{wish_view}

@@ -1,4 +1,4 @@
-use Rattle.std.proofs.Common.{◌≡◌, sym, refl}
+use Rattle.std.proofs.Common.{sym, refl}
 use Rattle.rows.specs.Row.{rows}
 use Rattle.lines.specs.Meaning.{says}
 use Rattle.wishes.specs.Views.{wish_view}

@@ -1,4 +1,4 @@
-use Rattle.std.proofs.Common.{◌≡◌, ℕ, ◌-◌, ◌<◌, Bool, true, false, eqb, List, [], ◌∷◌, map, length, get_or, take, drop, Some, None, Ok, Err, vec_items, Result, sym, refl, ap, ◌∙◌, arith, ltb-false, ltb-true}
+use Rattle.std.proofs.Common.{◌≡◌, ℕ, ◌-◌, ◌<◌, Bool, true, false, eqb, List, [], ◌∷◌, map, length, get_or, take, drop, None, Ok, Err, vec_items, Result, sym, refl, ap, ◌∙◌, arith, ltb-false, ltb-true}
 use Rattle.std.specs.Bool.{then_some}
 use Rattle.std.proofs.lemmas.Slice.{first_rest}
 use Rattle.std.proofs.lemmas.Result.{err_from_is_err_and}
@@ -7,14 +7,14 @@ use Rattle.narrow.specs.Term.{Bytes}
 use Rattle.narrow.proofs.Rows.{contradiction, when_true_is}
 use Rattle.parts.specs.Limits.{WishView, in_range}
 use Rattle.lines.specs.declared.Fault.{Fault}
-use Rattle.lines.specs.declared.Fault.TheVariants.{Shape, Range}
+use Rattle.lines.specs.declared.Fault.TheVariants.{Shape}
 use Rattle.tickets.specs.Making.{Tied}
 use Rattle.tickets.specs.Views.{ticket_view, tied_view}
 use Rattle.codec.specs.Things.{ticket}
 use Rattle.wishes.specs.Views.{raw_view}
 use Rattle.showing.specs.declared.unread.Unread.{Unread}
 use Rattle.showing.specs.declared.unread.Unread.TheVariants.{Bad, NoMemory}
-use Rattle.showing.specs.Showing.{ShownView, shown_kind, shown_of}
+use Rattle.showing.specs.Showing.{shown_kind, shown_of}
 use Rattle.showing.specs.Views.{Told, shown_view}
 use Rattle.showing.specs.Reading.{Yeses}
 use Rattle.showing.proofs.Shows.{not_read, more_left, out_of_range, all_read, other_kind, no_wish, no_ticket, no_yeses, parts_read}

@@ -1,4 +1,4 @@
-use Rattle.std.proofs.Common.{◌≡◌, IfOk, Ok, Err, Result, sym, refl, ap, ◌∙◌, subst}
+use Rattle.std.proofs.Common.{◌≡◌, IfOk, Ok, Err, Result, sym, ap, ◌∙◌}
 use Rattle.narrow.specs.Term.{Bytes}
 use Rattle.tickets.specs.Made.{Secrets}
 use Rattle.std.proofs.lemmas.Bool.{cond-true}

@@ -1,5 +1,4 @@
-use Rattle.std.proofs.Common.{◌≡◌, List, map, vec_items, sym, refl, ap, ◌∙◌}
-use Rattle.narrow.specs.Ticket.{Yes}
+use Rattle.std.proofs.Common.{◌≡◌, List, vec_items, ap, ◌∙◌}
 use Rattle.lines.specs.Meaning.{says}
 use Rattle.rows.specs.Row.{rows}
 use Rattle.tickets.specs.declared.TiedYes.{TiedYes}

@@ -1,6 +1,5 @@
-use Rattle.std.proofs.Common.{◌≡◌, Ok, Err, sym, refl, ap, ◌∙◌}
+use Rattle.std.proofs.Common.{Err, sym, ap, ◌∙◌}
 use Rattle.std.proofs.lemmas.Result.{err_from_is_err_and}
-use Rattle.lines.specs.declared.Place.TheVariants.{Yes}
 use Rattle.codec.specs.Format.{row}
 use Rattle.codec.proofs.Steps.{behind_on, behind_other, named_on, named_stop, both_first, both_second, both_on}
 use Rattle.codec.proofs.bodies.read_yes_body.Goals as goal

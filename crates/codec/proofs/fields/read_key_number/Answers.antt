@@ -1,6 +1,5 @@
-use Rattle.std.proofs.Common.{◌≡◌, ℕ, ◌≤◌, Ok, sym, refl, ap, ◌∙◌, arith}
+use Rattle.std.proofs.Common.{ℕ, Ok, sym, ap, ◌∙◌, arith}
 use Rattle.std.proofs.lemmas.Bool.{le-leb, lt-leb}
-use Rattle.narrow.specs.Term.{Bytes}
 use Rattle.parts.specs.Limits.{last_key}
 use Rattle.codec.specs.Format.{two_byte}
 use Rattle.codec.proofs.Combined.{two_byte_join}

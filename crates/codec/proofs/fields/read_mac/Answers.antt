@@ -1,4 +1,4 @@
-use Rattle.std.proofs.Common.{◌≡◌, Ok, sym, refl, ap, ◌∙◌}
+use Rattle.std.proofs.Common.{◌≡◌, Ok, sym, ap, ◌∙◌}
 use Rattle.narrow.specs.Term.{Bytes, mac_length}
 use Rattle.codec.specs.Format.{fixed}
 use Rattle.codec.proofs.Combined.{fixed_join}

@@ -1,4 +1,4 @@
-use Rattle.std.proofs.Common.{◌≡◌, ℕ, ◌+◌, ◌*◌, ◌<◌, length, ap, ◌∙◌, arith, rules}
+use Rattle.std.proofs.Common.{◌≡◌, ◌+◌, ◌*◌, length, ap, ◌∙◌, arith, rules}
 use lib.Lanes.{zip2}
 use Rattle.sha256.specs.Stages.{Underway}
 use Rattle.sha256.specs.Sha256.{◌⊞◌, compressed}

@@ -1,5 +1,5 @@
 use Rattle.std.proofs.Common.{◌≡◌, ℕ, [], ◌∷◌, get_or, ap, ◌∙◌, rules}
-use Rattle.sha256.specs.Sha256.{◌⊞◌, Σ₀, Σ₁, Ch, Maj, round}
+use Rattle.sha256.specs.Sha256.{◌⊞◌, Σ₁, Ch, round}
 use Rattle.hmac4.proofs.Arrays.{at, lane_whole}
 use Rattle.hmac4.proofs.compress.round.Goals as goal
 

@@ -1,4 +1,4 @@
-use Rattle.std.proofs.Common.{◌≡◌, get_or, ap, ◌∙◌, rules}
+use Rattle.std.proofs.Common.{◌≡◌, get_or, rules}
 use Rattle.sha256.specs.Constants.{constants}
 use Rattle.sha256.specs.Sha256.{round}
 use Rattle.sha256.proofs.Schedule.{underway_more}

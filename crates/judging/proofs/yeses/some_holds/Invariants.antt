@@ -1,4 +1,4 @@
-use Rattle.std.proofs.Common.{◌≡◌, Bool, false, ◌&&◌, eqb, take}
+use Rattle.std.proofs.Common.{◌≡◌, false, ◌&&◌, eqb, take}
 use Rattle.narrow.specs.Rows.{any}
 use Rattle.narrow.specs.Policy.{holds}
 use Rattle.lines.specs.Meaning.{says}

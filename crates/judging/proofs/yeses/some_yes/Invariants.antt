@@ -1,8 +1,5 @@
-use Rattle.std.proofs.Common.{◌≡◌, Bool, false, ◌&&◌, eqb, take}
+use Rattle.std.proofs.Common.{◌≡◌, false, eqb, take}
 use Rattle.narrow.specs.Rows.{any}
-use Rattle.narrow.specs.Policy.{holds}
-use Rattle.lines.specs.Meaning.{says}
-use Rattle.wishes.specs.Views.{wish_view}
 use Rattle.judging.specs.Views.{bodies}
 use Rattle.judging.proofs.yeses.some_yes.Given as goal
 

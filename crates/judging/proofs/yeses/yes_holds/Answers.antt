@@ -1,4 +1,4 @@
-use Rattle.std.proofs.Common.{◌≡◌, List, [], sym, refl, ap, ◌∙◌, arith}
+use Rattle.std.proofs.Common.{[], sym, refl, ap, ◌∙◌, arith}
 use Rattle.std.proofs.lemmas.List.{take_all}
 use Rattle.narrow.specs.Rows.{all}
 use Rattle.narrow.specs.Term.{Bytes}

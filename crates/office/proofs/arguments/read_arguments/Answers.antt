@@ -14,5 +14,5 @@ pub returns-in_default : goal.returns-in_default
 returns-in_default c =
     sym (cond-false c.eq.result _ _ c.if-eq.false) ∙ one_asked c.args.args.now c.only-item.result _ c.eq.result (omega (arith, ltb-true, ltb-false)) c.only-item.is c.as_str.ensures.value c.eq.ensures
 
-pub returns-in_default·2 : goal.returns-in_default·2
-returns-in_default·2 c = more_asked c.args.args.now (omega (arith, ltb-true, ltb-false))
+pub returns-in_default-2 : goal.returns-in_default-2
+returns-in_default-2 c = more_asked c.args.args.now (omega (arith, ltb-true, ltb-false))

@@ -1,4 +1,4 @@
-use Rattle.std.proofs.Common.{◌≡◌, ℕ, ◌+◌, ◌*◌, arith, rules}
+use Rattle.std.proofs.Common.{◌≡◌, ◌+◌, ◌*◌, arith, rules}
 use Rattle.sha256.specs.Stages.{Underway}
 use Rattle.sha256.specs.Sha256.{compressed}
 use Rattle.sha256.proofs.Schedule.{underway_none, ending_none}

@@ -1,4 +1,3 @@
-use Rattle.std.proofs.Common.{rules}
 use Rattle.sha256.proofs.Schedule.{ending_more}
 use Rattle.sha256.proofs.compress.last.Goals as goal
 

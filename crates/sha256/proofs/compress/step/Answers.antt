@@ -1,4 +1,3 @@
-use Rattle.std.proofs.Common.{rules}
 use Rattle.sha256.proofs.Schedule.{underway_more}
 use Rattle.sha256.proofs.compress.step.Goals as goal
 

@@ -1,4 +1,4 @@
-use Rattle.std.proofs.Common.{◌≡◌, ℕ, length, rules}
+use Rattle.std.proofs.Common.{rules}
 use Rattle.sha256.proofs.Lists.{zip_eight}
 use Rattle.sha256.specs.Sha256.{◌⊞◌}
 use Rattle.sha256.proofs.compress.sum.Goals as goal

@@ -1,6 +1,6 @@
-use Rattle.std.proofs.Common.{◌≡◌, ℕ, ◌+◌, ◌-◌, ◌*◌, ◌<◌, ◌≤◌, length, get_or, take, refl, ◌∙◌, arith, rules}
+use Rattle.std.proofs.Common.{◌≡◌, ℕ, ◌+◌, ◌-◌, ◌*◌, ◌<◌, ◌≤◌, length, get_or, take, refl, arith, rules}
 use Rattle.std.proofs.lemmas.List.{take_all, take_more, places}
-use Rattle.std.proofs.lemmas.Slice.{take-put_mid, overwrites}
+use Rattle.std.proofs.lemmas.Slice.{take-put_mid}
 use Rattle.sha256.specs.Sha256.{bytes}
 use Rattle.sha256.proofs.Bytes.{bytes_push}
 use Rattle.sha256.proofs.words.to_bytes.Goals as goal

@@ -1,4 +1,4 @@
-use Rattle.std.proofs.Common.{◌≡◌, length, vec_items, vec_len, ap, ◌∙◌}
+use Rattle.std.proofs.Common.{◌≡◌, length, vec_len, ◌∙◌}
 use Rattle.wishes.specs.Format.{wish_bytes}
 use Rattle.wishes.specs.Views.{wish_view}
 use Rattle.showing.proofs.Several.{written_all}

@@ -1,8 +1,6 @@
-use Rattle.std.proofs.Common.{◌≡◌, ◌+◌, List, [], ◌∷◌, ◌++◌, map, take, sym, refl, ap, ◌∙◌, arith}
+use Rattle.std.proofs.Common.{◌≡◌, ◌+◌, List, [], ◌∷◌, ◌++◌, map, take, sym, ap, ◌∙◌}
 use Rattle.std.proofs.lemmas.List.{take_more, take_all, map_push}
-use Rattle.narrow.specs.Term.{Bytes}
 use Rattle.tickets.specs.declared.TiedYes.{TiedYes}
-use Rattle.tickets.specs.Making.{Tied}
 use Rattle.tickets.specs.Views.{tied_view}
 use Rattle.codec.specs.Format.{write_several}
 use Rattle.codec.specs.Things.{tied}

@@ -1,12 +1,9 @@
-use Rattle.std.proofs.Common.{◌≡◌, Ok, sym, refl, ap, ◌∙◌, subst}
+use Rattle.std.proofs.Common.{Ok, sym, ap, ◌∙◌, subst}
 use Rattle.std.proofs.lemmas.Result.{err_from_is_err_and}
 use Rattle.narrow.specs.Term.{Bytes}
-use Rattle.lines.specs.declared.Place.{Place}
 use Rattle.rows.specs.Row.{rows}
-use Rattle.tickets.specs.Making as making
 use Rattle.tickets.specs.Places.{on_ticket}
 use Rattle.tickets.specs.Made.{ATicket, Right}
-use Rattle.tickets.specs.declared.Ticket.{Ticket}
 use Rattle.tickets.specs.declared.bodies.TicketBody.{TicketBody}
 use Rattle.tickets.specs.Views.{ticket_view, ticket_body}
 use Rattle.tickets.proofs.Changed.{ticket_place, still_some, ticket_back, line_grown, line_refused}
@@ -14,10 +11,10 @@ use Rattle.tickets.proofs.Rightly.{right_line}
 use Rattle.tickets.proofs.Ticket.add.Goals as goal
 
 pub invariant_of-self : goal.invariant_of-self
-invariant_of-self c = (
-  ap on_ticket c.grow.ensures.place ∙ c.args.self.now.body.stands,
-  (still_some c.grow.result c.args.self.now.body.lines.place c.args.self.now.body.lines c.grow.new.lines c.args.self.now.mac.bytes c.args.line.now c.args.self.now.body.some c.grow.ensures.grown, tt),
-)
+invariant_of-self c = record {
+  stands = ap on_ticket c.grow.ensures.place ∙ c.args.self.now.body.stands;
+  some = still_some c.grow.result c.args.self.now.body.lines.place c.args.self.now.body.lines c.grow.new.lines c.args.self.now.mac.bytes c.args.line.now c.args.self.now.body.some c.grow.ensures.grown;
+}
 
 pub returns-in_err-self : goal.returns-in_err-self
 returns-in_err-self c =

@@ -1,11 +1,10 @@
-use Rattle.std.proofs.Common.{◌≡◌, List, Ok, sym, refl, ap, ◌∙◌, subst}
+use Rattle.std.proofs.Common.{◌≡◌, List, Ok, sym, ap, ◌∙◌}
 use Rattle.std.proofs.lemmas.Result.{err_from_is_err_and}
 use Rattle.narrow.specs.Term.{Bytes}
 use Rattle.numbers.specs.Bytes.{four_bytes}
 use Rattle.hmac.specs.Hmac.{hmac_of}
 use Rattle.rows.specs.Row.{rows}
 use Rattle.rows.specs.Standing.{pushed}
-use Rattle.tickets.specs.Making as making
 use Rattle.tickets.specs.Making.{number_maced, new_ticket}
 use Rattle.tickets.specs.Places.{on_ticket}
 use Rattle.tickets.proofs.Changed.{some_line, line_grown, line_refused}
@@ -22,10 +21,10 @@ returns-in_err-mac c =
     (record { value = sym (line_refused _ c.args.first.now start c.new-lines.ensures.place _ (empty ∙ c.in_err-mac.ensures.grown.0)); right = tt })
 
 pub invariant_of-body : goal.invariant_of-body
-invariant_of-body c = (
-  ap on_ticket (c.in_ok-mac.ensures.place ∙ c.new-lines.ensures.place),
-  (some_line _ _ c.args.first.now c.grow.new.lines c.in_ok-mac.ensures.grown.0, tt),
-)
+invariant_of-body c = record {
+  stands = ap on_ticket (c.in_ok-mac.ensures.place ∙ c.new-lines.ensures.place);
+  some = some_line _ _ c.args.first.now c.grow.new.lines c.in_ok-mac.ensures.grown.0;
+}
 
 pub returns : goal.returns
 unfolding new_ticket

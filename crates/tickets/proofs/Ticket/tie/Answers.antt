@@ -1,8 +1,7 @@
-use Rattle.std.proofs.Common.{◌≡◌, refl, ap, ◌∙◌}
+use Rattle.std.proofs.Common.{refl, ap, ◌∙◌}
 use Rattle.narrow.specs.Term.{Bytes}
-use Rattle.tickets.specs.Making.{Tied, tied}
-use Rattle.tickets.specs.Views.{ticket_view, yes_view, yes_body, tied_view}
-use Rattle.tickets.specs.Made.{Thing, ATied, Right}
+use Rattle.tickets.specs.Making.{tied}
+use Rattle.tickets.specs.Views.{ticket_view, yes_view}
 use Rattle.tickets.proofs.Rightly.{right_tie}
 use Rattle.tickets.proofs.Ticket.tie.Goals as goal
 

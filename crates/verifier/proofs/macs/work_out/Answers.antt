@@ -1,4 +1,4 @@
-use Rattle.std.proofs.Common.{◌≡◌, length, replicate, refl, ◌∙◌, arith, length-set}
+use Rattle.std.proofs.Common.{replicate, refl, arith, length-set}
 use Rattle.rows.specs.Row.{rows}
 use Rattle.verifier.proofs.Chains.{starts, goes_on}
 use Rattle.verifier.proofs.macs.work_out.Goals as goal

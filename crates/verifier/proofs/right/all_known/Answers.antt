@@ -1,7 +1,6 @@
-use Rattle.std.proofs.Common.{◌≡◌, Bool, List, map, is_some, Some, None, Option, sym, refl, ap, ◌∙◌}
+use Rattle.std.proofs.Common.{◌≡◌, List, map, is_some, Some, None, Option, sym, refl, ap, ◌∙◌}
 use Rattle.std.proofs.lemmas.List.{take_all}
 use Rattle.narrow.specs.Rows.{all}
-use Rattle.narrow.specs.Term.{Bytes}
 use Rattle.hmac.specs.declared.Mac.{Mac}
 use Rattle.tickets.specs.declared.TiedYes.{TiedYes}
 use Rattle.tickets.specs.Views.{tied_view}

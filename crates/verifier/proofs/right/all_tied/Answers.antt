@@ -1,4 +1,4 @@
-use Rattle.std.proofs.Common.{◌≡◌, List, map, sym, refl, ap, ◌∙◌}
+use Rattle.std.proofs.Common.{List, map, sym, refl, ap, ◌∙◌}
 use Rattle.std.proofs.lemmas.List.{take_all}
 use Rattle.narrow.specs.Rows.{all}
 use Rattle.tickets.specs.declared.TiedYes.{TiedYes}

@@ -1,12 +1,8 @@
-use Rattle.std.proofs.Common.{◌≡◌, Bool, true, false, List, map, sym, refl, ap, ◌∙◌}
+use Rattle.std.proofs.Common.{◌≡◌, true, false, List, map, sym, refl, ap, ◌∙◌}
 use Rattle.std.proofs.lemmas.Bool.{cond-true, cond-false}
 use Rattle.hmac.specs.declared.Mac.{Mac}
-use Rattle.narrow.specs.Term.{Bytes}
-use Rattle.narrow.specs.Ticket.{ticket_mac}
-use Rattle.narrow.specs.TermBytes.{bytes_of}
-use Rattle.tickets.specs.Made.{by_hmac}
 use Rattle.tickets.specs.declared.TiedYes.{TiedYes}
-use Rattle.tickets.specs.Views.{ticket_body, ticket_view, tied_view}
+use Rattle.tickets.specs.Views.{ticket_view, tied_view}
 use Rattle.showing.specs.Views.{shown_view}
 use Rattle.verifier.specs.Stages.{secrets, tied_to}
 use Rattle.verifier.specs.Verdict.{right_mac, known_keys, right_ties, verdict_on}

@@ -1,4 +1,4 @@
-use Rattle.std.proofs.Common.{◌≡◌, true, false, is_some, Some, None, Option, sym, refl, ap, ◌∙◌}
+use Rattle.std.proofs.Common.{sym, ap, ◌∙◌}
 use Rattle.narrow.specs.Term.{Bytes}
 use Rattle.narrow.specs.TermBytes.{tie_message}
 use Rattle.hmac.specs.Hmac.{hmac_of}

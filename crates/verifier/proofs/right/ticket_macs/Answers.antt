@@ -1,7 +1,5 @@
-use Rattle.std.proofs.Common.{◌≡◌, sym, ap, ◌∙◌, arith}
-use Rattle.narrow.specs.Term.{Bytes}
+use Rattle.std.proofs.Common.{◌≡◌, ◌∙◌, arith}
 use Rattle.hmac.specs.Hmac.{hmac_of}
-use Rattle.hmac.specs.declared.Mac.{Mac}
 use Rattle.numbers.specs.Bytes.{four_bytes}
 use Rattle.rows.specs.Row.{rows}
 use Rattle.tickets.specs.Views.{ticket_body}

@@ -1,4 +1,4 @@
-use Rattle.std.proofs.Common.{◌≡◌, sym, ap, ◌∙◌, arith}
+use Rattle.std.proofs.Common.{ap, ◌∙◌, arith}
 use Rattle.hmac.specs.declared.Mac.{Mac}
 use Rattle.narrow.specs.Ticket.{yes_message}
 use Rattle.rows.specs.Row.{rows}

@@ -16,10 +16,12 @@ invariant_of-self-2 c =
     let at = c.get.ensures in
     let inside : c.get.result < length self.secrets.items = omega (arith, at, key.number.known, self.size, self.secrets.ok.0) in
     let free : taken ks c.get.result ≡ false = ap (taken ks) at ∙ c.requires in
-    let added : ks ++ (c.get.result, key.secret.bytes) ∷ [] ≡ keys_view (vec_items c.push.new.self) = ap (λ (n : ℕ). ks ++ (n, key.secret.bytes) ∷ []) at ∙ sym longer in (
-      ap apart longer ∙ apart_push ks (key_view key) self.apart c.requires,
-      (self.size, ((λ n. tabled_push self.secrets.items ks c.get.result key.secret inside free self.tabled n ∙ ap (λ (more : List KeyView). option_to_list (secret_in more n)) added), tt)),
-    )
+    let added : ks ++ (c.get.result, key.secret.bytes) ∷ [] ≡ keys_view (vec_items c.push.new.self) = ap (λ (n : ℕ). ks ++ (n, key.secret.bytes) ∷ []) at ∙ sym longer in
+    record {
+      apart = ap apart longer ∙ apart_push ks (key_view key) self.apart c.requires;
+      size = self.size;
+      tabled = λ n. tabled_push self.secrets.items ks c.get.result key.secret inside free self.tabled n ∙ ap (λ (more : List KeyView). option_to_list (secret_in more n)) added;
+    }
 
 pub returns : goal.returns
 returns c =

@@ -1,7 +1,6 @@
-use Rattle.std.proofs.Common.{◌≡◌, length, Ok, Err, sym, refl, ap, ◌∙◌, arith}
+use Rattle.std.proofs.Common.{length, Err, sym, refl, ap, ◌∙◌, arith}
 use Rattle.std.proofs.lemmas.Result.{err_from_is_err_and}
 use Rattle.std.proofs.lemmas.Bool.{lt-ltb, le-ltb}
-use Rattle.lines.specs.declared.Place.TheVariants.{Ticket}
 use Rattle.rows.specs.Row.{rows}
 use Rattle.rows.proofs.Held.{row_count}
 use Rattle.tickets.specs.Places.{on_ticket}
@@ -38,7 +37,7 @@ returns-then-len-eq0 c =
     (only_other _ _ _ _ _ _ c.in_ok-lines.ensures.0 (le-ltb 0 (length (rows c.in_ok-lines.lines)) (omega (arith, c.len.ensures.value, c.if-len-eq0.true)))))
 
 pub invariant_of-result : goal.invariant_of-result
-invariant_of-result c = (ap on_ticket c.in_ok-lines.ensures.1, (omega (arith, c.len.ensures.value, c.if-len-eq0.false, row_count c.in_ok-lines.lines), tt))
+invariant_of-result c = record { stands = ap on_ticket c.in_ok-lines.ensures.1; some = omega (arith, c.len.ensures.value, c.if-len-eq0.false, row_count c.in_ok-lines.lines) }
 
 pub returns : goal.returns
 unfolding row

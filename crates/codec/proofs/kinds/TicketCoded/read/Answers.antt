@@ -1,4 +1,3 @@
-use Rattle.std.proofs.Common.{◌≡◌, Ok, Err, sym, refl, ap, ◌∙◌}
 use Rattle.std.proofs.lemmas.Result.{err_from_is_err_and}
 use Rattle.codec.proofs.Steps.{maced_first, maced_second, maced_on}
 use Rattle.codec.proofs.kinds.TicketCoded.read.Goals as goal
