@@ -1,11 +1,10 @@
 -- A script says what its lines say, each read by itself, up to the first that can't be read. Assumes nothing.
-use Rattle.std.proofs.Common.{◌≡◌, ℕ, ◌+◌, Bool, true, false, cond, ◌⊎◌, List, [], ◌∷◌, ◌++◌, length, Some, None, Option, sym, refl, ap, ◌∙◌, subst, inl, inr, ⊎_elim, append_assoc, append-nil, arith, MatchOption}
+use Rattle.std.proofs.Common.{◌≡◌, ℕ, ◌+◌, Bool, true, false, cond, ◌⊎◌, List, [], ◌∷◌, ◌++◌, length, Some, None, Option, sym, refl, ap, ◌∙◌, subst, inl, inr, append_assoc, append-nil, arith, MatchOption}
 use Rattle.std.specs.List.{AllByRecursion as All}
 use Rattle.statements.specs.Said.{Said}
-use Rattle.scripts.specs.declared.Cause.{Cause}
 use Rattle.scripts.specs.declared.Cause.TheVariants.{HouseFirst}
 use Rattle.scripts.specs.declared.Fault.{Fault}
-use Rattle.scripts.specs.Laws.{heard, statements_of, Readable, FirstFault, LineByLine}
+use Rattle.scripts.specs.Laws.{heard, statements_of, Readable, LineByLine}
 use Rattle.scripts.specs.Rules.{Sense, none, says, stops, alone, misplaced, placed, sense, Outcome, some_of, outcome, lines_in, reads}
 use Rattle.scripts.proofs.Lines.{after}
 

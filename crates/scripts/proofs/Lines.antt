@@ -1,5 +1,5 @@
 -- A script's statements, line by line. Assumes nothing.
-use Rattle.std.proofs.Common.{◌≡◌, ℕ, ◌+◌, ◌^◌, ◌<◌, Bool, true, false, not, eqb, List, [], ◌∷◌, ◌++◌, map, length, Some, None, refl, ap, ◌∙◌, arith, Bor}
+use Rattle.std.proofs.Common.{◌≡◌, ℕ, ◌+◌, ◌^◌, ◌<◌, Bool, true, false, not, eqb, List, [], ◌∷◌, ◌++◌, map, length, Some, None, ap, ◌∙◌, arith, Bor}
 use Rattle.std.specs.declared.iter.Enumerate.{Enumerate}
 use Rattle.std.specs.declared.str.Split.{Split}
 use Rattle.std.specs.Str.Pattern.{FindsChar}
@@ -7,9 +7,8 @@ use Rattle.std.specs.Str.Iter.{split_text, split_has_more, split_pattern, split_
 use Rattle.std.specs.Iterator.Adapters.{enumerate_source, enumerate_count}
 use Rattle.std.proofs.lemmas.List.{map_push}
 use Rattle.std.proofs.lemmas.Bool.{ne_eqb}
-use Rattle.scripts.specs.declared.Cause.{Cause}
 use Rattle.scripts.specs.declared.Numbered.{Numbered}
-use Rattle.scripts.specs.declared.reading.Reading.{Reading}
+use Rattle.scripts.specs.declared.one_line.Reading.{Reading}
 use Rattle.statements.specs.Said.{Said}
 use Rattle.statements.specs.Views.{stated}
 use Rattle.texts.proofs.Cuts.{to_come, took}

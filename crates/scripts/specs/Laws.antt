@@ -5,7 +5,7 @@ use Rattle.std.specs.List.{AllByRecursion as All}
 use Rattle.scripts.specs.declared.Cause.{Cause}
 use Rattle.scripts.specs.declared.Fault.{Fault}
 use Rattle.statements.specs.Said.{Said}
-use Rattle.scripts.specs.Rules.{lines_in, Sense, none, says, stops, alone, opens, sense, Outcome, some_of, reads}
+use Rattle.scripts.specs.Rules.{Sense, none, says, stops, alone, opens, sense, Outcome, some_of, reads}
 
 -- ---- a script says what its lines say, each read by itself, up to the first that can't be read
 

@@ -1,11 +1,11 @@
 -- The code's values as the rules speak of them: a text is its bytes. Assumes nothing.
-use Rattle.std.specs.Prelude.{ℕ, List, map, vec_items}
+use Rattle.std.specs.Prelude.{ℕ, map, vec_items}
 use Rattle.statements.specs.Said.{Said}
 use Rattle.statements.specs.Views.{stated}
 use Rattle.scripts.specs.declared.Numbered.{Numbered}
 use Rattle.scripts.specs.declared.Script.{Script}
-use Rattle.scripts.specs.declared.reading.Reading.{Reading}
-use Rattle.scripts.specs.declared.reading.Reading.TheVariants.{Nothing, Says, Unreadable}
+use Rattle.scripts.specs.declared.one_line.Reading.{Reading}
+use Rattle.scripts.specs.declared.one_line.Reading.TheVariants.{Nothing, Says, Unreadable}
 use Rattle.scripts.specs.Rules.{Sense, none, says, stops, Outcome}
 
 -- what a reading says

@@ -10,9 +10,9 @@ ghost use Rattle.scripts.specs.Rules.{lines_in, reads};
 ghost use Rattle.scripts.specs.Views.{told};
 
 mod display;
-mod reading;
+mod one_line;
 
-use reading::{Reading, read_line};
+use one_line::{Reading, read_line};
 use statements::Statement;
 use std::alloc::{AllocError, Global};
 

@@ -1,8 +1,9 @@
 -- Words that are told by the word before them, as the code reads them. Assumes nothing.
-use Rattle.std.proofs.Common.{◌≡◌, ℕ, Bool, true, false, cond, not, List, [], ◌∷◌, Ok, Err, Decides, sym, ap, ◌∙◌, ⊎_elim}
+use Rattle.std.proofs.Common.{◌≡◌, ℕ, true, false, cond, not, List, [], ◌∷◌, Ok, Err, sym, ap, ◌∙◌, ⊎_elim}
 use Rattle.std.specs.Str.{bytes_eq}
 use Rattle.std.proofs.lemmas.Slice.Eq.{bytes_eq-Decides}
-use Rattle.std.proofs.lemmas.Bool.{cases_Bool, both_ways, not-true, not-false, cond-true, cond-false}
+use Rattle.std.specs.Cmp.Lexicographic.{same_text, other_text}
+use Rattle.std.proofs.lemmas.Bool.{cases_Bool, not-true, not-false, cond-true, cond-false}
 use Rattle.texts.specs.declared.Cause.{Cause}
 use Rattle.texts.specs.declared.Cause.TheVariants.{UnknownWord, MissingWord}
 use Rattle.texts.specs.Labels.{next, labelled, no_more, only_after}
@@ -12,12 +13,12 @@ pub differs : (w text : List ℕ) → (w ≡ text → ⊥) → bytes_eq w text �
 differs w text h = ⊎_elim (λ e. absurd (h ((bytes_eq-Decides w text).0 e))) (λ e. e) (cases_Bool (bytes_eq w text))
 
 -- what `!=` says
-module _ (P : Type 0) where
-  pub apart : (b : Bool) × Decides b P × (true ≡ not b) → P → ⊥
-  apart h p = both_ways h.0 (not-true h.0 (sym h.2)) (h.1.1 p)
+module _ (xs ys : List ℕ) where
+  pub apart : true ≡ not (bytes_eq xs ys) → xs ≡ ys → ⊥
+  apart h = other_text xs ys (sym (not-true (bytes_eq xs ys) (sym h)))
 
-  pub alike : (b : Bool) × Decides b P × (false ≡ not b) → P
-  alike h = h.1.0 (not-false h.0 (sym h.2))
+  pub alike : false ≡ not (bytes_eq xs ys) → xs ≡ ys
+  alike h = same_text xs ys (sym (not-false (bytes_eq xs ys) (sym h)))
 
 module _ (label : List ℕ) (ws : List (List ℕ)) where
   pub no_label : ws ≡ [] → Err MissingWord ≡ labelled label ws

@@ -1,5 +1,6 @@
 -- Words that are a line are read as that line. Assumes nothing.
 use Rattle.std.proofs.Common.{◌≡◌, ℕ, ◌<◌, ◌≤◌, true, cond, leb, List, [], length, Ok, Err, Result, sym, refl, ap, ◌∙◌, arith}
+use Rattle.std.specs.List.{join_with_byte}
 use Rattle.std.proofs.lemmas.Bool.{cond-true, and_parts, leb-true}
 use Rattle.narrow.specs.Rows.{all}
 use Rattle.parts.specs.Limits.{MuseumIn, DayIn, MinuteIn, PersonsUpTo, NameIs, LineView, ALimit, AnElse, is_line, is_museums, is_name, is_letter, longest_name, last_key, within}
@@ -15,7 +16,7 @@ use Rattle.words.proofs.Spans.{span_takes}
 use Rattle.texts.proofs.Steps.{err_ok}
 use Rattle.words.proofs.Telling.{line_told}
 
-museums_takes : (ps : List (List ℕ)) (ms : List ℕ) → WriteAll ps ms → is_museums ms ≡ true → museums_of (Rattle.std.specs.Pieces.rejoined 44 ps) ≡ Ok ms
+museums_takes : (ps : List (List ℕ)) (ms : List ℕ) → WriteAll ps ms → is_museums ms ≡ true → museums_of (join_with_byte 44 ps) ≡ Ok ms
 unfolding museums_of
 museums_takes ps ms h e =
     let a = and_parts (within 1 8 (length ms)) _ e in

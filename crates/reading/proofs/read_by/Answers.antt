@@ -31,4 +31,4 @@ pub returns-in-show : goal.returns-in-show
 returns-in-show c = subst (Told stated c.read_show.result) (at_show c.args.first.now c.args.text.now c.in-show.is) c.read_show.ensures
 
 pub returns-in_default : goal.returns-in_default
-returns-in_default c = at_none c.args.first.now c.args.text.now c.in_default.not-house c.in_default.not_key c.in_default.not-ticket c.in_default.not_yes c.in_default.not-add c.in_default.not-tie c.in_default.not-give c.in_default.not-wish c.in_default.not-show
+returns-in_default c = at_none c.args.first.now c.args.text.now c.in_default.not-house c.in_default.not-key c.in_default.not-ticket c.in_default.not-yes c.in_default.not-add c.in_default.not-tie c.in_default.not-give c.in_default.not-wish c.in_default.not-show

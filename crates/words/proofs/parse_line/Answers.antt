@@ -1,5 +1,5 @@
-use Rattle.std.proofs.Common.{◌≡◌, ℕ, false, List, Result, sym, refl, ap, ◌∙◌, subst}
-use Rattle.std.proofs.lemmas.Bool.Decides.{not_from_Decides}
+use Rattle.std.proofs.Common.{◌≡◌, ℕ, List, codes, Result, sym, ap, ◌∙◌, subst}
+use Rattle.std.specs.Cmp.Lexicographic.{same_text, other_text}
 use Rattle.parts.specs.Limits.{LineView, ALimit, AnElse}
 use Rattle.texts.specs.declared.Cause.{Cause}
 use Rattle.texts.specs.Cuts.{words_of, one_word}
@@ -25,25 +25,25 @@ returns-in_default c = both c.args.text.now _ (ap line_of (sym c.in_default.ensu
 pub returns-in_err-only_word : goal.returns-in_err-only_word
 returns-in_err-only_word c =
     both c.args.text.now _
-    (no_word (one_word (words_of c.in-Some.rest.now)) key_of AnElse _ (at_else c.in-Some.kind.now _ c.args.text.now c.in-Some.ensures (c.if-eq.ensures.0 refl)) c.from_residual.result _ _ c.from_residual.ensures.1 c.in_err-only_word.ensures)
+    (no_word (one_word (words_of c.in-Some.rest.now)) key_of AnElse _ (at_else c.in-Some.kind.now _ c.args.text.now c.in-Some.ensures (same_text c.in-Some.kind.now (codes "else") c.if-eq.ensures)) c.from_residual.result _ _ c.from_residual.ensures.1 c.in_err-only_word.ensures)
 
 pub returns-in_err-key_of : goal.returns-in_err-key_of
 returns-in_err-key_of c =
     both c.args.text.now _
-    (no_content (one_word (words_of c.in-Some.rest.now)) key_of AnElse _ (at_else c.in-Some.kind.now _ c.args.text.now c.in-Some.ensures (c.if-eq.ensures.0 refl)) _ c.in_ok-only_word.ensures c.from_residual-in_err-key_of.result _ _ c.from_residual-in_err-key_of.ensures.1 c.in_err-key_of.ensures)
+    (no_content (one_word (words_of c.in-Some.rest.now)) key_of AnElse _ (at_else c.in-Some.kind.now _ c.args.text.now c.in-Some.ensures (same_text c.in-Some.kind.now (codes "else") c.if-eq.ensures)) _ c.in_ok-only_word.ensures c.from_residual-in_err-key_of.result _ _ c.from_residual-in_err-key_of.ensures.1 c.in_err-key_of.ensures)
 
 pub returns-then-eq : goal.returns-then-eq
 returns-then-eq c =
     both c.args.text.now _
-    (content (one_word (words_of c.in-Some.rest.now)) key_of AnElse _ (at_else c.in-Some.kind.now _ c.args.text.now c.in-Some.ensures (c.if-eq.ensures.0 refl)) _ c.in_ok-only_word.ensures _ c.in_ok-key_of.ensures)
+    (content (one_word (words_of c.in-Some.rest.now)) key_of AnElse _ (at_else c.in-Some.kind.now _ c.args.text.now c.in-Some.ensures (same_text c.in-Some.kind.now (codes "else") c.if-eq.ensures)) _ c.in_ok-only_word.ensures _ c.in_ok-key_of.ensures)
 
 pub returns-in_err-parse_limit : goal.returns-in_err-parse_limit
 returns-in_err-parse_limit c =
     both c.args.text.now _
     (exits c.from_residual-in_err-parse_limit.result _ _ c.from_residual-in_err-parse_limit.ensures.1 ∙ ap (λ r. and_is r ALimit) c.in_err-parse_limit.ensures
-    ∙ at_limit c.in-Some.kind.now _ c.args.text.now c.in-Some.ensures (not_from_Decides false c.if-eq.ensures refl))
+    ∙ at_limit c.in-Some.kind.now _ c.args.text.now c.in-Some.ensures (other_text c.in-Some.kind.now (codes "else") c.if-eq.ensures))
 
 pub returns : goal.returns
 returns c =
     both c.args.text.now _
-    (ap (λ r. and_is r ALimit) c.in_ok-parse_limit.ensures ∙ at_limit c.in-Some.kind.now _ c.args.text.now c.in-Some.ensures (not_from_Decides false c.if-eq.ensures refl))
+    (ap (λ r. and_is r ALimit) c.in_ok-parse_limit.ensures ∙ at_limit c.in-Some.kind.now _ c.args.text.now c.in-Some.ensures (other_text c.in-Some.kind.now (codes "else") c.if-eq.ensures))

@@ -1,4 +1,4 @@
-use Rattle.std.proofs.Common.{◌≡◌, sym, ap}
+use Rattle.std.proofs.Common.{sym, ap}
 use Rattle.std.specs.Str.{bytes_eq}
 use Rattle.std.proofs.lemmas.Slice.Eq.{bytes_eq-Decides}
 use Rattle.std.proofs.lemmas.Bool.{cond-true, cond-false}
@@ -22,11 +22,11 @@ unfolding ending
 returns-then-ne c =
     so _ (ap (or_else MissingWord) c.in-Some.ensures)
     (so _ (ap (or_else MissingWord) c.in-Some-last_word.ensures)
-    (sym (cond-false (bytes_eq c.in-Some-last_word.word.now c.args.label.now) _ _ (differs c.in-Some-last_word.word.now c.args.label.now (apart (c.in-Some-last_word.word.now ≡ c.args.label.now) c.if-ne.ensures)))))
+    (sym (cond-false (bytes_eq c.in-Some-last_word.word.now c.args.label.now) _ _ (differs c.in-Some-last_word.word.now c.args.label.now (apart c.in-Some-last_word.word.now c.args.label.now c.if-ne.ensures)))))
 
 pub returns : goal.returns
 unfolding ending
 returns c =
     so _ (ap (or_else MissingWord) c.in-Some.ensures)
     (so _ (ap (or_else MissingWord) c.in-Some-last_word.ensures)
-    (sym (cond-true (bytes_eq c.in-Some-last_word.word.now c.args.label.now) _ _ ((bytes_eq-Decides c.in-Some-last_word.word.now c.args.label.now).1 (alike (c.in-Some-last_word.word.now ≡ c.args.label.now) c.if-ne.ensures)))))
+    (sym (cond-true (bytes_eq c.in-Some-last_word.word.now c.args.label.now) _ _ ((bytes_eq-Decides c.in-Some-last_word.word.now c.args.label.now).1 (alike c.in-Some-last_word.word.now c.args.label.now c.if-ne.ensures)))))

@@ -7,9 +7,9 @@ use Rattle.making.proofs.cuts.lines_in.Goals as goal
 
 pub loop-part-init : goal.loop-part-init
 loop-part-init c =
-    let it = c.into_iter-part-iterator.ensures.into_iter-gives in
+    let it = c.into_iter-part-iterator.ensures.into_iter_gives in
     let made = c.split-part-items.ensures in
-    no_line_yet c.args.text.now c.new-lines.ensures.items (ap split_has_more it ∙ made.Has-more) (ap split_text it ∙ made.text) (ap split_pattern it ∙ made.pattern)
+    no_line_yet c.args.text.now c.new-lines.ensures.items (ap split_has_more it ∙ made.has_more) (ap split_text it ∙ made.text) (ap split_pattern it ∙ made.pattern)
 
 pub loop-part-preserved : goal.loop-part-preserved
 loop-part-preserved c =

@@ -3,7 +3,7 @@ use Rattle.std.proofs.lemmas.Str.Pattern.{split_parts}
 use Rattle.std.proofs.lemmas.Bool.{ne_eqb}
 use Rattle.scripts.specs.Rules.{hash, before}
 use Rattle.scripts.proofs.Cuts.{before_all, before_cut}
-use Rattle.scripts.proofs.reading.code_of.Goals as goal
+use Rattle.scripts.proofs.one_line.code_of.Goals as goal
 
 pub returns-in-Some : goal.returns-in-Some
 returns-in-Some c =

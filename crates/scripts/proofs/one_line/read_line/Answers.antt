@@ -4,7 +4,7 @@ use Rattle.reading.specs.Forms.{said_in}
 use Rattle.statements.specs.Views.{stated}
 use Rattle.statements.specs.declared.Trouble.TheVariants.{Unreadable}
 use Rattle.scripts.proofs.Placing.{cause_told, heard, out_of_place, in_place}
-use Rattle.scripts.proofs.reading.read_line.Goals as goal
+use Rattle.scripts.proofs.one_line.read_line.Goals as goal
 
 pub returns-then-opens_house-begun : goal.returns-then-opens_house-begun
 returns-then-opens_house-begun c =
