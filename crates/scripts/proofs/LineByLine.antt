@@ -1,6 +1,6 @@
 -- A script says what its lines say, each read by itself, up to the first that can't be read. Assumes nothing.
 use Rattle.std.proofs.Common.{◌≡◌, ℕ, ◌+◌, Bool, true, false, cond, ◌⊎◌, List, [], ◌∷◌, ◌++◌, length, Some, None, Option, sym, refl, ap, ◌∙◌, subst, inl, inr, append_assoc, append-nil, arith, MatchOption}
-use Rattle.std.specs.List.{AllByRecursion as All}
+use Rattle.std.specs.List.{AllByRecursion}
 use Rattle.statements.specs.Said.{Said}
 use Rattle.scripts.specs.declared.Cause.TheVariants.{HouseFirst}
 use Rattle.scripts.specs.declared.Fault.{Fault}
@@ -25,12 +25,12 @@ record FaultAfter (past : List (ℕ × Said)) (n : ℕ) (ls : List (List ℕ)) (
   rest : List (List ℕ)
   split : ls ≡ before ++ here ∷ rest
   number : f.line ≡ n + length before
-  readable : All Readable before
+  readable : AllByRecursion Readable before
   cause : sense (some_of said) here ≡ stops f.cause
   spoken : said ≡ past ++ statements_of n before
 
 abbrev Goes : List (ℕ × Said) → ℕ → List (List ℕ) → List (ℕ × Said) → Option Fault → Type 0
-Goes past n ls said stop = MatchOption stop (All Readable ls × (said ≡ past ++ statements_of n ls)) (FaultAfter past n ls said)
+Goes past n ls said stop = MatchOption stop (AllByRecursion Readable ls × (said ≡ past ++ statements_of n ls)) (FaultAfter past n ls said)
 
 -- one line more in front, which can be read
 longer : (past : List (ℕ × Said)) (n : ℕ) (l : List ℕ) (ls : List (List ℕ)) (said : List (ℕ × Said)) (stop : Option Fault) → Readable l → Goes (past ++ heard n (alone l)) (n + 1) ls said stop → Goes past n (l ∷ ls) said stop

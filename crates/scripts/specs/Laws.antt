@@ -1,7 +1,7 @@
 -- What holds of every script, above the rules that say how it is read. Assumes nothing.
 use Rattle.std.specs.Prelude.{◌≡◌, ℕ, ◌+◌, true, false, List, [], ◌∷◌, ◌++◌, length, MatchOption, ◌≢◌}
 use Rattle.std.specs.Str.Iter.{LacksByte}
-use Rattle.std.specs.List.{AllByRecursion as All}
+use Rattle.std.specs.List.{AllByRecursion}
 use Rattle.scripts.specs.declared.Cause.{Cause}
 use Rattle.scripts.specs.declared.Fault.{Fault}
 use Rattle.statements.specs.Said.{Said}
@@ -31,13 +31,13 @@ pub record FirstFault (ls : List (List ℕ)) (said : List (ℕ × Said)) (f : Fa
   pub after : List (List ℕ)
   pub split : ls ≡ before ++ here ∷ after
   pub number : f.line ≡ 1 + length before
-  pub readable : All Readable before
+  pub readable : AllByRecursion Readable before
   pub cause : sense (some_of said) here ≡ stops f.cause
   pub spoken : said ≡ statements_of 1 before
 
 -- what a script comes to, line by line
 abbrev pub LineByLine : List (List ℕ) → Outcome → Type 0
-LineByLine ls o = MatchOption o.stop (All Readable ls × (o.said ≡ statements_of 1 ls)) (FirstFault ls o.said)
+LineByLine ls o = MatchOption o.stop (AllByRecursion Readable ls × (o.said ≡ statements_of 1 ls)) (FirstFault ls o.said)
 
 -- ---- a comment says nothing: the script without it comes to the same
 
@@ -55,4 +55,4 @@ CommentsAside text o = (front comment back : List ℕ) → text ≡ front ++ (35
 -- the first statement opens the house, and no other does
 abbrev pub HouseOpensFirst : List (ℕ × Said) → Type 0
 HouseOpensFirst [] = Unit {0}
-HouseOpensFirst (s ∷ ss) = (opens s.1 ≡ true) × All (λ t. opens t.1 ≡ false) ss
+HouseOpensFirst (s ∷ ss) = (opens s.1 ≡ true) × AllByRecursion (λ t. opens t.1 ≡ false) ss

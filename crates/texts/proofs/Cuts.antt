@@ -7,7 +7,7 @@ use Rattle.std.specs.Str.Pattern.{FindsBy, FindsChar, FindsPrefixBy, HasPassingC
 use Rattle.std.specs.Str.Iter.{split_text, split_has_more, split_pattern, split_steps}
 use Rattle.std.specs.Option.{option_map}
 use Rattle.std.specs.Str.{NoCharPasses}
-use Rattle.std.specs.List.{AllByRecursion as All}
+use Rattle.std.specs.List.{AllByRecursion}
 use Rattle.std.proofs.ByRecursion.{All-from_get_or}
 use Rattle.std.proofs.lemmas.List.{take-append-drop, nil_from_length}
 use Rattle.std.proofs.lemmas.Str.Pattern.{drop_at_char, IsSplitOnceResult, split_parts}
@@ -19,7 +19,7 @@ use Rattle.texts.specs.Results.{both_parts}
 
 -- no byte passes t
 abbrev pub Free : (ℕ → Bool) → List ℕ → Type 0
-Free t bs = All (λ b. t b ≡ false) bs
+Free t bs = AllByRecursion (λ b. t b ≡ false) bs
 
 pub parts_all : (t : ℕ → Bool) (bs : List ℕ) → Free t bs → parts t bs ≡ bs ∷ []
 parts_all t [] h = refl

@@ -2,7 +2,7 @@
 use Rattle.std.proofs.Common.{◌≡◌, ℕ, ◌+◌, ◌<◌, ◌≤◌, true, false, ltb, List, [], ◌∷◌, ◌++◌, length, take, set, Some, Ok, Err, sym, refl, ap, ◌∙◌, append_assoc, append-nil, arith, length-append, length-set, Bor}
 use Rattle.std.specs.Str.Pattern.{FindsChar}
 use Rattle.std.specs.Str.Iter.{split_text, split_has_more, split_pattern, split_steps}
-use Rattle.std.specs.List.{join_with_byte, AllByRecursion as All}
+use Rattle.std.specs.List.{join_with_byte, AllByRecursion}
 use Rattle.std.specs.declared.str.Split.{Split}
 use Rattle.std.proofs.lemmas.List.{take_more_set}
 use Rattle.std.proofs.lemmas.Bool.{cond-true, cond-false, cond_both, and_parts, lt-ltb, le-ltb, eqb-true}
@@ -68,7 +68,7 @@ no_museum_yet list s word l e f g = record { rest = rw (e, f); cuts = g; long = 
 
 -- ---- parts, and what is joined of them
 
-parts_rejoined : (p : List ℕ) (ps : List (List ℕ)) → All (Free comma) (p ∷ ps) → parts comma (join_with_byte 44 (p ∷ ps)) ≡ p ∷ ps
+parts_rejoined : (p : List ℕ) (ps : List (List ℕ)) → AllByRecursion (Free comma) (p ∷ ps) → parts comma (join_with_byte 44 (p ∷ ps)) ≡ p ∷ ps
 parts_rejoined p [] h = parts_all comma p h.0
 parts_rejoined p (q ∷ ps) h = parts_cut comma p 44 (join_with_byte 44 (q ∷ ps)) refl h.0 ∙ ap (λ l. p ∷ l) (parts_rejoined q ps h.1)
 
@@ -104,7 +104,7 @@ museum_small m e = grind (arith, nat_tests)
 comma_out : (b : ℕ) → Rattle.std.specs.Int.IsInRange 48 57 b → comma b ≡ false
 comma_out b h = grind (arith, nat_tests)
 
-commaless : (ps : List (List ℕ)) (ms : List ℕ) → WriteAll ps ms → all is_museum ms ≡ true → All (Free comma) ps
+commaless : (ps : List (List ℕ)) (ms : List ℕ) → WriteAll ps ms → all is_museum ms ≡ true → AllByRecursion (Free comma) ps
 unfolding all
 commaless [] [] h e = tt
 commaless [] (m ∷ ms) h e = absurd h

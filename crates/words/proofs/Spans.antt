@@ -1,5 +1,6 @@
 -- Two numbers with a dash between them. Assumes nothing.
-use Rattle.std.proofs.Common.{◌≡◌, ℕ, ◌≤◌, true, false, leb, List, ◌∷◌, ◌++◌, Some, None, Ok, Err, Option, sym, refl, ap, ◌∙◌, subst, arith}
+use Rattle.std.proofs.Common.{◌≡◌, ℕ, ◌≤◌, true, false, cond, leb, List, [], ◌∷◌, ◌++◌, Some, None, Ok, Err, Option, sym, refl, ap, ◌∙◌, subst, arith}
+use Rattle.std.specs.Option.{option_map}
 use Rattle.std.specs.Int.{IsInRange}
 use Rattle.std.proofs.lemmas.Bool.{cond-true, and_parts, and_from, leb-true, le-leb}
 use Rattle.std.proofs.lemmas.Bool.Decides.{nat_tests}
@@ -7,7 +8,7 @@ use Rattle.parts.specs.Limits.{is_span}
 use Rattle.texts.specs.declared.Cause.{Cause}
 use Rattle.texts.specs.declared.Cause.TheVariants.{NotASpan, Backward}
 use Rattle.texts.specs.Cuts.{dash, at_first}
-use Rattle.words.specs.Lines.{ordered, between, span_of}
+use Rattle.words.specs.Lines.{ordered, between, at_dash, span_of}
 use Rattle.texts.specs.Numerals.{Writes}
 use Rattle.texts.specs.Numerals.{number_of}
 use Rattle.texts.specs.Results.{and_then}
@@ -15,16 +16,22 @@ use Rattle.texts.proofs.Cuts.{first_takes, first_told}
 use Rattle.texts.proofs.Digits.{number_takes, number_told, writes_digits, digits_free}
 use Rattle.texts.proofs.Steps.{then_ok, cond_ok, err_ok}
 
+-- the first dash is where a text is cut
+dash_first : (w : List ℕ) → at_first dash w ≡ at_dash w
+unfolding at_first at_dash
+dash_first [] = refl
+dash_first (b ∷ bs) = ap (λ o. cond (dash b) (Some ([], bs)) (option_map (λ p. (b ∷ p.0, p.1)) o)) (dash_first bs)
+
 -- ---- what `split_once` gave
 
 pub no_span : (w : List ℕ) → None ≡ at_first dash w → Err NotASpan ≡ span_of w
 unfolding span_of
-no_span w e = ap between e
+no_span w e = ap between (e ∙ dash_first w)
 
 module _ (w x y : List ℕ) (e : Some (x, y) ≡ at_first dash w) where
   pub span_is : span_of w ≡ and_then (number_of 65535 x) (λ a. and_then (number_of 65535 y) (λ b. ordered a b))
   unfolding span_of
-  span_is = ap between (sym e)
+  span_is = ap between (sym (e ∙ dash_first w))
 
   pub no_from : (c : Cause) → Err c ≡ number_of 65535 x → Err c ≡ span_of w
   no_from c p = sym (span_is ∙ ap (λ r. and_then r (λ a. and_then (number_of 65535 y) (λ b. ordered a b))) (sym p))
@@ -50,7 +57,7 @@ span_takes x y a b p q e =
     let s = and_parts (leb a b) _ e in
     let le : a ≤ b = leb-true a b s.0 in
     let most : b ≤ 65535 = leb-true b 65535 s.1 in
-    ap between (first_takes 45 (omega arith) x y (digits_free dash dash_out x (writes_digits x a (omega arith) p)))
+    ap between (sym (dash_first (x ++ 45 ∷ y)) ∙ first_takes 45 (omega arith) x y (digits_free dash dash_out x (writes_digits x a (omega arith) p)))
     ∙ ap (λ r. and_then r (λ m. and_then (number_of 65535 y) (λ n. ordered m n))) (number_takes x a (omega arith) p 65535 (omega arith))
     ∙ ap (λ r. and_then r (λ n. ordered a n)) (number_takes y b (omega arith) q 65535 most) ∙ cond-true (leb a b) _ _ s.0
 
@@ -64,7 +71,7 @@ pub record Spanned (w : List ℕ) (s : ℕ × ℕ) : Type 0 where
 
 pub span_told : (w : List ℕ) (s : ℕ × ℕ) → span_of w ≡ Ok s → Spanned w s
 unfolding span_of
-span_told w s e = by (at_first dash w) refl e
+span_told w s e = by (at_first dash w) refl (ap between (dash_first w) ∙ e)
   where
     by : (o : Option (List ℕ × List ℕ)) → at_first dash w ≡ o → between o ≡ Ok s → Spanned w s
     by None d e = absurd (err_ok _ _ e)

@@ -1,11 +1,12 @@
 -- What the words of a line say. Assumes nothing.
 use Rattle.std.specs.Prelude.{ℕ, cond, List, [], ◌∷◌, ◌++◌, length, Some, None, Ok, Err, codes, Option, Result, nat_le, nat_lt}
+use Rattle.std.specs.Option.{option_map}
 use Rattle.std.specs.Str.{bytes_eq}
 use Rattle.narrow.specs.Rows.{all}
 use Rattle.parts.specs.Limits.{LimitView, MuseumIn, DayIn, MinuteIn, PersonsUpTo, NameIs, LineView, ALimit, AnElse, is_museums, is_letter, longest_name, last_key, most_museums}
 use Rattle.texts.specs.declared.Cause.{Cause}
 use Rattle.texts.specs.declared.Cause.TheVariants.{UnknownWord, MissingWord, NoSuchMuseum, TooManyMuseums, NoSuchKey, NotASpan, Backward, BadLetter, LongName}
-use Rattle.texts.specs.Cuts.{parts, comma, dash, at_first, words_of, one_word, maybe_word}
+use Rattle.texts.specs.Cuts.{parts, comma, dash, words_of, one_word, maybe_word}
 use Rattle.texts.specs.Numerals.{number_of}
 use Rattle.texts.specs.Results.{and_then, and_is}
 
@@ -27,8 +28,13 @@ abbrev pub between : Option (List ℕ × List ℕ) → Result (ℕ × ℕ) Cause
 between None = Err NotASpan
 between (Some p) = and_then (number_of 65535 p.0) (λ a. and_then (number_of 65535 p.1) (λ b. ordered a b))
 
+-- what stands before the first dash, and after it
+unfoldable pub at_dash : List ℕ → Option (List ℕ × List ℕ)
+at_dash [] = None
+at_dash (b ∷ bs) = cond (dash b) (Some ([], bs)) (option_map (λ p. (b ∷ p.0, p.1)) (at_dash bs))
+
 unfoldable pub span_of : List ℕ → Result (ℕ × ℕ) Cause
-span_of w = between (at_first dash w)
+span_of w = between (at_dash w)
 
 unfoldable pub name_of : List ℕ → Result (List ℕ) Cause
 name_of w = cond (nat_le (length w) longest_name) (cond (all is_letter w) (Ok w) (Err BadLetter)) (Err LongName)
