@@ -3,7 +3,8 @@
 
 usage: python3 tools/spell_names.py [--plan] [ROOT]      (ROOT: the top of the repository; default: the current folder)
 
-It was run once, over files that `port.py` had just turned to the kit rattle-kit-13f, and is kept to show what it did.
+It was run once, over files that `port.py` had just turned to the kit rattle-kit-13f, and is kept to show what it did. (It then passed
+over records whose parameters have parentheses of their own, `First-fault` and `Fault-after`, which were turned by hand.)
 It goes by text: it collects what crates/*/specs and crates/*/proofs declare, and writes the new spelling wherever such a name stands
 in an .antt file, and in the `ghost use` lines, clauses, ghost members and comments of an .rt file. Names of goals, of the library, of
 src/ and of strings stay. Two names that fall together in a file get words of their own from TOGETHER.
@@ -13,7 +14,7 @@ import re
 import sys
 
 NAME = r"[A-Za-z][A-Za-z0-9_'\-]*"
-DECLARED = re.compile(r"^(\s*)((?:(?:abbrev|unfoldable|pub|data|record)\s+)*)(" + NAME + r")((?:\s+(?:\([^)]*\)|\{[^}]*\}))*)\s*:\s+(\S.*)$")
+DECLARED = re.compile(r"^(\s*)((?:(?:abbrev|unfoldable|pub|data|record)\s+)*)(" + NAME + r")((?:\s+(?:\((?:[^()]|\([^()]*\))*\)|\{[^}]*\}))*)\s*:\s+(\S.*)$")
 GOAL = re.compile(r"(goal|need)\.")
 LIBRARY = re.compile(r"^(?:ghost )?use (?:Rattle\.(?:std|core)|mathlib|borrow|denote|native|lib|Prim)\S*\.\{([^}]*)\}", re.M)
 
