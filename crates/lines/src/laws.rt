@@ -1,5 +1,7 @@
-// The laws of lines. Each function only carries a theorem: its contract is the statement.
+// The laws of lines; those of wishes are passed on. Each function only carries a theorem: its contract is the statement.
 ghost use Rattle.lines.specs.Laws.{LinesBack, LinesExact, FormatTells, LinesNoTie, NamesApart, LineTwice};
+
+pub use wishes::laws::{wish_format, wishes_back, wishes_exact};
 
 /// Every line that can be is read back from its bytes as it was.
 pub fn lines_back()

@@ -12,7 +12,7 @@ use lines::{Limit, Line, Name, Wish};
 use std::fmt;
 use std::str::from_utf8;
 
-/// A line, a limit or a wish to be printed in words, as `format!(heap, "{}", Words(line))`.
+/// A line, a limit or a wish to be printed in words, as `format!(in heap; "{}", Words(line))`.
 #[derive(Drop)]
 pub struct Words<T: Drop>(pub T);
 
