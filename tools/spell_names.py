@@ -66,8 +66,8 @@ def snake(name):
 
 
 def declared(root):
-    """The names that specs/ and proofs/ declare, goals aside, each with: in specs/, in proofs/, a field."""
-    found, goals = {}, set()
+    """The names that specs/ and proofs/ declare, goals aside, and which of them are fields."""
+    found, fields, goals = set(), set(), set()
     for p in files(root):
         if not p.endswith(".antt"):
             continue
@@ -85,28 +85,23 @@ def declared(root):
             if GOAL.match(m.group(5)):
                 goals.add(m.group(3))
                 continue
-            kinds = found.setdefault(m.group(3), set())
-            kinds.add("specs" if "/specs/" in p else "proofs")
+            found.add(m.group(3))
             if held and m.group(1):
-                kinds.add("field")
-    return {n: k for n, k in found.items() if n not in goals}
+                fields.add(m.group(3))
+    return found - goals, fields - goals
 
 
-def plan(root):
+def plan(root, names):
     """Old name, new name; a name that some file takes from the library stays."""
     taken = set()
     for p in files(root):
         for m in LIBRARY.finditer(open(p, encoding="utf-8").read()):
             taken |= {n.strip() for n in m.group(1).split(",")}
-    return {n: m for n, m in spellings(root).items() if n not in taken or n in TOGETHER}
+    new = {n: TOGETHER.get(n, snake(n)) for n in names}
+    return {n: m for n, m in new.items() if m != n and (n not in taken or n in TOGETHER)}
 
 
-def spellings(root):
-    return {n: TOGETHER.get(n, snake(n)) for n in declared(root) if TOGETHER.get(n, snake(n)) != n}
-
-
-def at(root, p, new):
-    """The plan for this file."""
+def plan_for(p, root, new):
     return new | HERE.get(os.path.relpath(p, root), {})
 
 
@@ -135,47 +130,45 @@ def spell_rt(text, new, fields):
             out.append(spelled(line, new, fields))
             depth = max(0, depth + line.count("{") - line.count("}"))
         elif "//" in line:
-            at = line.index("//")
-            out.append(line[:at] + spelled(line[at:], new, fields))
+            code, comment = line.split("//", 1)
+            out.append(code + spelled("//" + comment, new, fields))
         else:
             out.append(line)
     return "\n".join(out)
 
 
-def clashes(root, new):
+def clashes(root, everywhere):
     """Files in which a new name meets itself."""
     for p in files(root):
-        text = open(p, encoding="utf-8").read()
-        everywhere, new = new, at(root, p, new)
-        here = set(re.findall(r"(?<![\w'\-])" + NAME, text))
+        new = plan_for(p, root, everywhere)
+        here = set(re.findall(r"(?<![\w'\-])" + NAME, open(p, encoding="utf-8").read()))
+        back = {}
         for n in sorted(here & set(new)):
             if new[n] in here:
                 yield p, n, new[n]
-        back = {}
-        for n in here & set(new):
-            back.setdefault(new[n], set()).add(n)
+            back.setdefault(new[n], []).append(n)
         for k, v in back.items():
             if len(v) > 1:
-                yield p, " ".join(sorted(v)), k
-        new = everywhere
+                yield p, " ".join(v), k
 
 
 def main():
     words = [w for w in sys.argv[1:] if w != "--plan"]
     root = words[0] if words else "."
-    new = plan(root)
-    fields = {n for n, k in declared(root).items() if "field" in k}
+    names, fields = declared(root)
+    new = plan(root, names)
     if "--plan" in sys.argv:
         for p, n, m in clashes(root, new):
             print(f"{p}: {n} -> {m}")
         return
     for p in files(root):
         text = open(p, encoding="utf-8").read()
-        here = at(root, p, new)
-        turned = spelled(text, here, fields) if p.endswith(".antt") else spell_rt(text, here, fields)
+        spell = spelled if p.endswith(".antt") else spell_rt
+        turned = spell(text, plan_for(p, root, new), fields)
         if turned != text:
             with open(p, "w", encoding="utf-8") as f:
                 f.write(turned)
 
 
-main()
+if __name__ == "__main__":
+    main()

@@ -2,7 +2,7 @@
 use Rattle.std.proofs.Common.{◌≡◌, ℕ, zero, suc, ◌<◌, Bool, true, false, cond, not, ◌&&◌, eqb, List, [], ◌∷◌, length, get_or, Some, None, Decides, Option, sym, refl, ap, ◌∙◌, subst, arith, MatchOption}
 use mathlib.Core.List.{Memᴰ}
 use Rattle.std.specs.Option.{option_map}
-use Rattle.std.proofs.lemmas.Bool.{and_parts, and_from, eqb-true, eq-eqb}
+use Rattle.std.proofs.lemmas.Bool.{and_parts, and_from, eqb-true, eq-eqb, not-true, not_from_false, false_from_ne_true}
 use Rattle.narrow.specs.Rows.{any, all}
 use Rattle.narrow.specs.Term.{Bytes}
 use Rattle.narrow.specs.Ticket.{Yes}
@@ -16,14 +16,6 @@ use Rattle.judging.specs.Laws.{Holds, BadLimit, Lacking, Unheld, Least, Nowhere,
 use Rattle.judging.proofs.Searching.{first_at, first_none}
 
 -- ---- what a test decides
-
-not-true : (b : Bool) → not b ≡ true → b ≡ false
-not-true true e = contradiction (cc)
-not-true false e = refl
-
-not-false : (b : Bool) → (b ≡ true → ⊥) → not b ≡ true
-not-false true ne = absurd (ne refl)
-not-false false ne = refl
 
 yes_holds : (v : Meaning) (y : Yes) → Decides (holds v y) (Holds v y)
 yes_holds v y = (λ e m i. limit (v m) (all_at (λ l. met no_key (v l)) i e), λ h. all_from (λ l. met no_key (v l)) y.lines (λ m i. ap (met no_key) (h m i)))
@@ -46,7 +38,7 @@ module _ (v : Meaning) (ys : List Yes) (l : Bytes) where
       told Unreadable q e = (λ r. contradiction (cc), λ k r. contradiction (cc))
 
       so : (s : Says) → v l ≡ s → BadLimit v l → says_fails v ys ask.Limit s ≡ true
-      so (Limit b) q bad = not-false b (λ h. bad.0 (q ∙ ap Limit h))
+      so (Limit b) q bad = not_from_false b (false_from_ne_true b (λ h. bad.0 (q ∙ ap Limit h)))
       so (Else k) q bad = absurd (bad.1 k q)
       so Unreadable q bad = refl
 
@@ -62,7 +54,7 @@ module _ (v : Meaning) (ys : List Yes) (l : Bytes) where
       so : (s : Says) → v l ≡ s → Lacking v ys l → says_fails v ys ask.SomeYes s ≡ true
       so (Limit b) q (k, r, bad) = contradiction (cc)
       so (Else j) q (k, r, bad) =
-          not-false (some_yes ys j) (λ e. let (y, i, same) = any_in (λ y. eqb y.key j) ys e in bad y i (eqb-true y.key j same ∙ key_same j k (sym q ∙ r)))
+          not_from_false (some_yes ys j) (false_from_ne_true (some_yes ys j) (λ e. let (y, i, same) = any_in (λ y. eqb y.key j) ys e in bad y i (eqb-true y.key j same ∙ key_same j k (sym q ∙ r))))
         where
           key_same : (j k : ℕ) → Else j ≡ Else k → j ≡ k
           key_same j k e = cc
@@ -80,11 +72,11 @@ module _ (v : Meaning) (ys : List Yes) (l : Bytes) where
       so : (s : Says) → v l ≡ s → Unheld v ys l → says_fails v ys ask.Holding s ≡ true
       so (Limit b) q (k, r, bad) = contradiction (cc)
       so (Else j) q (k, r, bad) =
-          not-false (some_holds v ys j)
-          (λ e.
+          not_from_false (some_holds v ys j)
+          (false_from_ne_true (some_holds v ys j) (λ e.
           let (y, i, both) = any_in (λ y. eqb y.key j && holds v y) ys e in
           let (same, h) = and_parts (eqb y.key j) (holds v y) both in
-          bad y i (eqb-true y.key j same ∙ key_same j k (sym q ∙ r)) ((yes_holds v y).0 h))
+          bad y i (eqb-true y.key j same ∙ key_same j k (sym q ∙ r)) ((yes_holds v y).0 h)))
         where
           key_same : (j k : ℕ) → Else j ≡ Else k → j ≡ k
           key_same j k e = cc

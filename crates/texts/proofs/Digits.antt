@@ -12,8 +12,7 @@ use Rattle.std.proofs.lemmas.Bool.{and_parts, and_from, and_left, cond-true, con
 use Rattle.std.proofs.lemmas.Bool.Decides.{nat_tests}
 use Rattle.texts.specs.declared.Cause.{Cause}
 use Rattle.texts.specs.declared.Cause.TheVariants.{NotANumber, TooLarge}
-use Rattle.texts.specs.Numerals.{Writes}
-use Rattle.texts.specs.Numerals.{is_numeral, number_of}
+use Rattle.texts.specs.Numerals.{Writes, is_numeral, number_of}
 use Rattle.texts.specs.Results.{and_then}
 use Rattle.texts.proofs.Cuts.{Free}
 use Rattle.texts.proofs.Steps.{cond_ok}

@@ -1,16 +1,16 @@
 -- Words that are told by the word before them, as the code reads them. Assumes nothing.
-use Rattle.std.proofs.Common.{◌≡◌, ℕ, true, false, cond, not, List, [], ◌∷◌, Ok, Err, sym, ap, ◌∙◌, ⊎_elim}
+use Rattle.std.proofs.Common.{◌≡◌, ℕ, true, false, cond, not, List, [], ◌∷◌, Ok, Err, sym, ap, ◌∙◌}
 use Rattle.std.specs.Str.{bytes_eq}
 use Rattle.std.proofs.lemmas.Slice.Eq.{bytes_eq-Decides}
 use Rattle.std.specs.Cmp.Lexicographic.{same_text, other_text}
-use Rattle.std.proofs.lemmas.Bool.{cases_Bool, not-true, not-false, cond-true, cond-false}
+use Rattle.std.proofs.lemmas.Bool.{false_from_ne_true, not-true, not-false, cond-true, cond-false}
 use Rattle.texts.specs.declared.Cause.{Cause}
 use Rattle.texts.specs.declared.Cause.TheVariants.{UnknownWord, MissingWord}
 use Rattle.texts.specs.Labels.{next, labelled, no_more, only_after}
 use Rattle.texts.specs.Results.{and_then}
 
 pub differs : (w text : List ℕ) → (w ≡ text → ⊥) → bytes_eq w text ≡ false
-differs w text h = ⊎_elim (λ e. absurd (h ((bytes_eq-Decides w text).0 e))) (λ e. e) (cases_Bool (bytes_eq w text))
+differs w text h = false_from_ne_true (bytes_eq w text) (λ e. h ((bytes_eq-Decides w text).0 e))
 
 -- what `!=` says
 module _ (xs ys : List ℕ) where

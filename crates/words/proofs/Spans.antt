@@ -9,8 +9,7 @@ use Rattle.texts.specs.declared.Cause.{Cause}
 use Rattle.texts.specs.declared.Cause.TheVariants.{NotASpan, Backward}
 use Rattle.texts.specs.Cuts.{dash, at_first}
 use Rattle.words.specs.Lines.{ordered, between, at_dash, span_of}
-use Rattle.texts.specs.Numerals.{Writes}
-use Rattle.texts.specs.Numerals.{number_of}
+use Rattle.texts.specs.Numerals.{Writes, number_of}
 use Rattle.texts.specs.Results.{and_then}
 use Rattle.texts.proofs.Cuts.{first_takes, first_told}
 use Rattle.texts.proofs.Digits.{number_takes, number_told, writes_digits, digits_free}

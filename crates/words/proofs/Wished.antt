@@ -9,9 +9,8 @@ use Rattle.parts.specs.Limits.{WishView, in_range, is_museum, is_letter, longest
 use Rattle.texts.specs.declared.Cause.{Cause}
 use Rattle.texts.specs.declared.Cause.TheVariants.{UnknownWord}
 use Rattle.texts.specs.Cuts.{words_of, maybe_word}
-use Rattle.texts.specs.Numerals.{Writes}
+use Rattle.texts.specs.Numerals.{Writes, number_of}
 use Rattle.words.specs.Means.{Named, left_off, wordless, word_is, WishMeans, wish_is, fits, WishTold}
-use Rattle.texts.specs.Numerals.{number_of}
 use Rattle.printing.specs.Printed.{end_words, wish_words}
 use Rattle.texts.specs.Results.{and_then, and_is}
 use Rattle.texts.specs.Labels.{next, labelled}

@@ -1,5 +1,5 @@
-use Rattle.std.proofs.Common.{◌≡◌, ◌+◌, map, vec_items, vec_len, sym, refl, ap, ◌∙◌, arith, inl}
-use Rattle.std.specs.Str.Iter.{split_text, split_has_more, split_parts_left, split_pattern}
+use Rattle.std.proofs.Common.{◌≡◌, ◌+◌, map, vec_items, vec_len, sym, refl, ap, ◌∙◌}
+use Rattle.std.specs.Str.Iter.{split_text, split_has_more, split_pattern}
 use Rattle.std.specs.Iterator.Adapters.{enumerate_source, enumerate_count}
 use Rattle.script.specs.declared.reading.Reading.{Reading}
 use Rattle.script.specs.declared.reading.Reading.TheVariants.{Nothing, Says, Unreadable}
@@ -18,26 +18,22 @@ loop-i-init c =
     let source = ap enumerate_source it ∙ c.enumerate-i-items.ensures.source in
     let made = c.split.ensures in
     let count = ap enumerate_count it ∙ c.enumerate-i-items.ensures.count in
-    let few = ap split_parts_left source ∙ made.remaining in (
-      (tt, tt, inl (omega (arith, count, few, c.well_formed))),
-      tt,
-      no_line_yet c.args.text.now c.new-statements.ensures.items count (ap split_has_more source ∙ made.has_more) (ap split_text source ∙ made.text) (ap split_pattern source ∙ made.pattern),
-    )
+    no_line_yet c.args.text.now c.new-statements.ensures.items count (ap split_has_more source ∙ made.has_more) (ap split_text source ∙ made.text) (ap split_pattern source ∙ made.pattern)
 
 -- what a line comes to that says r
 spoken : (c : In_ok-read_line) (r : Reading) → c.in_ok-read_line.field-0 ≡ r → after (map numbered (vec_items c.loop-i.statements)) (c.in-Some.i + 1) (to_come newline (enumerate_source c.next.new.self)) (meant r) ≡ reads c.args.text.now
 spoken c r e =
-    turn c.loop-i.invariant.2 c.next.new.self c.in-Some.i c.in-Some.line c.in-Some.ensures.steps (vec_len c.loop-i.statements) c.is_empty-begun.result c.in_ok-read_line.field-0 r c.loop-i.statements.ok.0 c.is_empty-begun.ensures e c.in_ok-read_line.ensures
+    turn c.loop-i.invariant c.next.new.self c.in-Some.i c.in-Some.line c.in-Some.ensures.steps (vec_len c.loop-i.statements) c.is_empty-begun.result c.in_ok-read_line.field-0 r c.loop-i.statements.ok.0 c.is_empty-begun.ensures e c.in_ok-read_line.ensures
 
 pub loop-i-preserved-in-Nothing : goal.loop-i-preserved-in-Nothing
 loop-i-preserved-in-Nothing c =
     let h = spoken (goal.at.loop-i-preserved-in-Nothing c).In_ok-read_line Nothing c.in-Nothing.is in
-    ((c.in-Some.ensures.goes.on tt).0, tt, nothing_said c.loop-i.invariant.2 c.next.new.self c.in-Some.i c.in-Some.line c.in-Some.ensures.steps h)
+    nothing_said c.loop-i.invariant c.next.new.self c.in-Some.i c.in-Some.line c.in-Some.ensures.steps h
 
 pub loop-i-preserved : goal.loop-i-preserved
 loop-i-preserved c =
     let h = spoken (goal.at.loop-i-preserved c).In_ok-read_line (Says c.in-Says.statement) c.in-Says.is in
-    ((c.in-Some.ensures.goes.on tt).0, tt, one_more c.loop-i.invariant.2 c.next.new.self c.in-Some.i c.in-Some.line c.in-Some.ensures.steps (vec_items c.push.new.self) _ c.in_ok-push-in-Says.ensures.items refl h)
+    one_more c.loop-i.invariant c.next.new.self c.in-Some.i c.in-Some.line c.in-Some.ensures.steps (vec_items c.push.new.self) _ c.in_ok-push-in-Says.ensures.items refl h
 
 pub returns-in-Unreadable : goal.returns-in-Unreadable
 returns-in-Unreadable c =
@@ -46,5 +42,5 @@ returns-in-Unreadable c =
 
 pub returns : goal.returns
 returns c =
-    let h = no_more c.loop-i.invariant.2 (sym c.in-None.ensures.steps.0.0) in
+    let h = no_more c.loop-i.invariant (sym c.in-None.ensures.steps.0.0) in
     record { rules = h; line_by_line = by_lines c.args.text.now _ h; comments_aside = aside c.args.text.now _ h }

@@ -3,4 +3,4 @@ use Rattle.script.proofs.Lines.{Sofar}
 use Rattle.script.proofs.read_script.Given as goal
 
 abbrev pub invariant-loop-i : goal.invariant-loop-i
-invariant-loop-i l = (goal.iterator-loop-i).can_next l.i-iterator × (goal.iterator-loop-i).is_finite l.i-iterator × Sofar (vec_items l.statements) l.i-iterator l.text
+invariant-loop-i l = Sofar (vec_items l.statements) l.i-iterator l.text

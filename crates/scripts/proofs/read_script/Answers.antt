@@ -1,12 +1,17 @@
-use Rattle.std.proofs.Common.{◌+◌, vec_items, vec_len, sym, refl, ap, ◌∙◌}
+use Rattle.std.proofs.Common.{◌≡◌, ◌+◌, map, vec_items, vec_len, sym, refl, ap, ◌∙◌}
 use Rattle.std.specs.Str.Iter.{split_text, split_has_more, split_pattern}
 use Rattle.std.specs.Iterator.Adapters.{enumerate_source, enumerate_count}
+use Rattle.scripts.specs.declared.one_line.Reading.{Reading}
 use Rattle.scripts.specs.declared.one_line.Reading.TheVariants.{Nothing, Says, Unreadable}
+use Rattle.scripts.specs.Rules.{newline, reads}
+use Rattle.scripts.specs.Views.{meant, numbered}
+use Rattle.texts.proofs.Cuts.{to_come}
 use Rattle.scripts.proofs.Comments.{aside}
 use Rattle.scripts.proofs.HouseFirst.{house_first}
 use Rattle.scripts.proofs.LineByLine.{by_lines}
-use Rattle.scripts.proofs.Lines.{no_line_yet, no_more, turn, nothing_said, one_more}
+use Rattle.scripts.proofs.Lines.{after, no_line_yet, no_more, turn, nothing_said, one_more}
 use Rattle.scripts.proofs.read_script.Goals as goal
+use Rattle.scripts.proofs.read_script.Goals.{In_ok-read_line}
 
 pub loop-i-init : goal.loop-i-init
 loop-i-init c =
@@ -16,19 +21,24 @@ loop-i-init c =
     let count = ap enumerate_count it ∙ c.enumerate-i-items.ensures.count in
     no_line_yet c.args.text.now c.new-statements.ensures.items count (ap split_has_more source ∙ made.has_more) (ap split_text source ∙ made.text) (ap split_pattern source ∙ made.pattern)
 
+-- what a line comes to that says r
+spoken : (c : In_ok-read_line) (r : Reading) → c.in_ok-read_line.field-0 ≡ r → after (map numbered (vec_items c.loop-i.statements)) (c.in-Some.i + 1) (to_come newline (enumerate_source c.next.new.self)) (meant r) ≡ reads c.args.text.now
+spoken c r e =
+    turn c.loop-i.invariant c.next.new.self c.in-Some.i c.in-Some.line c.in-Some.ensures.steps (vec_len c.loop-i.statements) c.is_empty-begun.result c.in_ok-read_line.field-0 r c.loop-i.statements.ok.0 c.is_empty-begun.ensures e c.in_ok-read_line.ensures
+
 pub loop-i-preserved-in-Nothing : goal.loop-i-preserved-in-Nothing
 loop-i-preserved-in-Nothing c =
-    let h = turn c.loop-i.invariant c.next.new.self c.in-Some.i c.in-Some.line c.in-Some.ensures.steps (vec_len c.loop-i.statements) c.is_empty-begun.result c.in_ok-read_line.field-0 Nothing c.loop-i.statements.ok.0 c.is_empty-begun.ensures c.in-Nothing.is c.in_ok-read_line.ensures in
+    let h = spoken (goal.at.loop-i-preserved-in-Nothing c).In_ok-read_line Nothing c.in-Nothing.is in
     nothing_said c.loop-i.invariant c.next.new.self c.in-Some.i c.in-Some.line c.in-Some.ensures.steps h
 
 pub loop-i-preserved : goal.loop-i-preserved
 loop-i-preserved c =
-    let h = turn c.loop-i.invariant c.next.new.self c.in-Some.i c.in-Some.line c.in-Some.ensures.steps (vec_len c.loop-i.statements) c.is_empty-begun.result c.in_ok-read_line.field-0 (Says c.in-Says.statement) c.loop-i.statements.ok.0 c.is_empty-begun.ensures c.in-Says.is c.in_ok-read_line.ensures in
-    one_more c.loop-i.invariant c.next.new.self c.in-Some.i c.in-Some.line c.in-Some.ensures.steps (vec_items c.push.new.self) (record { line = c.in-Some.i + 1; statement = c.in-Says.statement }) c.in_ok-push-in-Says.ensures.items refl h
+    let h = spoken (goal.at.loop-i-preserved c).In_ok-read_line (Says c.in-Says.statement) c.in-Says.is in
+    one_more c.loop-i.invariant c.next.new.self c.in-Some.i c.in-Some.line c.in-Some.ensures.steps (vec_items c.push.new.self) _ c.in_ok-push-in-Says.ensures.items refl h
 
 pub returns-in-Unreadable : goal.returns-in-Unreadable
 returns-in-Unreadable c =
-    let h = turn c.loop-i.invariant c.next.new.self c.in-Some.i c.in-Some.line c.in-Some.ensures.steps (vec_len c.loop-i.statements) c.is_empty-begun.result c.in_ok-read_line.field-0 (Unreadable c.in-Unreadable.cause) c.loop-i.statements.ok.0 c.is_empty-begun.ensures c.in-Unreadable.is c.in_ok-read_line.ensures in
+    let h = spoken (goal.at.returns-in-Unreadable c).In_ok-read_line (Unreadable c.in-Unreadable.cause) c.in-Unreadable.is in
     record { rules = h; line_by_line = by_lines c.args.text.now _ h; house_first = house_first c.args.text.now _ h; comments_aside = aside c.args.text.now _ h }
 
 pub returns : goal.returns

@@ -1,9 +1,7 @@
 use Rattle.std.proofs.Common.{sym, ap}
 use Rattle.std.specs.Str.{bytes_eq}
-use Rattle.std.proofs.lemmas.Slice.Eq.{bytes_eq-Decides}
-use Rattle.std.proofs.lemmas.Bool.{cond-true, cond-false}
+use Rattle.std.proofs.lemmas.Bool.{cond-true, cond-false, not-true, not-false}
 use Rattle.texts.specs.declared.Cause.TheVariants.{MissingWord}
-use Rattle.texts.proofs.Labelling.{differs, apart, alike}
 use Rattle.texts.specs.Cuts.{or_else}
 use Rattle.making.specs.Cuts.{ending}
 use Rattle.texts.proofs.Steps.{so, no}
@@ -22,11 +20,11 @@ unfolding ending
 returns-then-ne c =
     so _ (ap (or_else MissingWord) c.in-Some.ensures)
     (so _ (ap (or_else MissingWord) c.in-Some-last_word.ensures)
-    (sym (cond-false (bytes_eq c.in-Some-last_word.word.now c.args.label.now) _ _ (differs c.in-Some-last_word.word.now c.args.label.now (apart c.in-Some-last_word.word.now c.args.label.now c.if-ne.ensures)))))
+    (sym (cond-false (bytes_eq c.in-Some-last_word.word.now c.args.label.now) _ _ (not-true _ (sym c.if-ne.ensures)))))
 
 pub returns : goal.returns
 unfolding ending
 returns c =
     so _ (ap (or_else MissingWord) c.in-Some.ensures)
     (so _ (ap (or_else MissingWord) c.in-Some-last_word.ensures)
-    (sym (cond-true (bytes_eq c.in-Some-last_word.word.now c.args.label.now) _ _ ((bytes_eq-Decides c.in-Some-last_word.word.now c.args.label.now).1 (alike c.in-Some-last_word.word.now c.args.label.now c.if-ne.ensures)))))
+    (sym (cond-true (bytes_eq c.in-Some-last_word.word.now c.args.label.now) _ _ (not-false _ (sym c.if-ne.ensures)))))
