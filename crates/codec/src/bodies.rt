@@ -6,7 +6,7 @@ ghost use Rattle.tickets.specs.Views.{ticket_body, yes_body};
 use crate::Coded;
 use crate::fields::{read_key_number, read_kind};
 use lines::{Fault, Place};
-use numbers::{four_bytes, two_bytes};
+use numbers::Number;
 use rows::Reader;
 use std::alloc::{AllocError, Global};
 use tickets::{TicketBody, YesBody};
@@ -22,7 +22,7 @@ impl Coded for TicketBody {
 
     fn read(reader: &mut Reader<'_>) -> Result<TicketBody, Fault> {
         read_kind(reader, TICKET_KIND)?;
-        let Some(number) = reader.four() else {
+        let Some(number) = reader.number() else {
             return Err(Fault::Shape);
         };
         let lines = reader.row(Place::Ticket)?;
@@ -35,7 +35,7 @@ impl Coded for TicketBody {
     fn to_bytes(&self, heap: Global) -> Result<Vec<u8>, AllocError> {
         let mut out = Vec::new(heap);
         out.push(TICKET_KIND)?;
-        out.extend_from_slice(&four_bytes(self.number))?;
+        out.extend_from_slice(&self.number.to_bytes())?;
         out.push(self.lines.len() as u8)?;
         out.extend_from_slice(self.lines.wire())?;
         Ok(out)
@@ -59,7 +59,7 @@ pub fn yes_body_bytes(heap: Global, kind: u8, body: &YesBody) -> Result<Vec<u8>,
 {
     let mut out = Vec::new(heap);
     out.push(kind)?;
-    out.extend_from_slice(&two_bytes(body.key.get()))?;
+    out.extend_from_slice(&body.key.get().to_bytes())?;
     out.push(body.limits.len() as u8)?;
     out.extend_from_slice(body.limits.wire())?;
     Ok(out)

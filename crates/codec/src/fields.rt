@@ -28,7 +28,7 @@ pub fn read_key_number(reader: &mut Reader<'_>) -> Result<KeyNumber, Fault>
         (λ k. key_number.read reader.old.rest.now ≡ Ok (k.number, reader.new.rest.now))
         (λ f. key_number.read reader.old.rest.now ≡ Err f) }
 {
-    let Some(number) = reader.two() else {
+    let Some(number) = reader.number() else {
         return Err(Fault::Shape);
     };
     let Some(key) = KeyNumber::new(number) else {

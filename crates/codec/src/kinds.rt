@@ -7,7 +7,7 @@ use crate::Coded;
 use crate::bodies::{read_yes_body, yes_body_bytes};
 use crate::fields::{read_key_number, read_kind, read_mac};
 use lines::Fault;
-use numbers::two_bytes;
+use numbers::Number;
 use rows::Reader;
 use std::alloc::{AllocError, Global};
 use tickets::{PassedYes, Ticket, TicketBody, TiedYes, Yes, YesKey};
@@ -120,7 +120,7 @@ impl Coded for YesKey {
     fn to_bytes(&self, heap: Global) -> Result<Vec<u8>, AllocError> {
         let mut out = Vec::new(heap);
         out.push(KEY_KIND)?;
-        out.extend_from_slice(&two_bytes(self.number.get()))?;
+        out.extend_from_slice(&self.number.get().to_bytes())?;
         out.extend_from_slice(&self.secret.bytes())?;
         Ok(out)
     }

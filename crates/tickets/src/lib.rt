@@ -18,7 +18,7 @@ pub mod laws;
 pub use bodies::{TicketBody, YesBody};
 use hmac::Mac;
 use lines::{Fault, KeyNumber, Place};
-use numbers::four_bytes;
+use numbers::Number;
 use rows::Lines;
 
 /// A ticket (a macaroon): what it says, and the MAC of its last line.
@@ -63,7 +63,7 @@ impl Ticket {
         ensures right { IfOk result (λ t. (s : Secrets) → s.house ≡ house.bytes → Right s (ATicket (ticket_view t))) }
     {
         let mut lines = Lines::new(Place::Ticket);
-        let start = house.mac(&four_bytes(number));
+        let start = house.mac(&number.to_bytes());
         let mac = grow(&mut lines, start, first)?;
         let body = TicketBody { number, lines };
         Ok(Ticket { body, mac })

@@ -7,5 +7,5 @@ use Rattle.codec.proofs.bodies.yes_body_bytes.Goals as goal
 pub returns : goal.returns
 unfolding two_byte row behind both only named
 returns c =
-    laid_row _ _ _ _ _ _ c.new-out.ensures.items c.in_ok-push.ensures.items c.in_ok-extend_from_slice.ensures.items (c.two_bytes.ensures ∙ ap two_bytes c.get.ensures)
+    laid_row _ _ _ _ _ _ c.new-out.ensures.items c.in_ok-push.ensures.items c.in_ok-extend_from_slice.ensures.items (c.to_bytes.ensures ∙ ap two_bytes c.get.ensures)
     _ _ _ _ _ _ c.in_ok-push-2.ensures.items c.len.ensures.value c.in_ok-extend_from_slice-2.ensures.items c.wire.ensures

@@ -11,12 +11,12 @@ returns-in_default c = only_stop two_byte _ _ c.args.reader.now.rest.now _ (two_
 
 pub returns-in_default-new : goal.returns-in_default-new
 returns-in_default-new c =
-    let read = ap two_byte.read c.in-Some.ensures ∙ two_byte_join c.in-Some.number c.two.new.self.rest.now in
+    let read = ap two_byte.read c.in-Some.ensures ∙ two_byte_join c.in-Some.number c.number.new.self.rest.now in
     only_other two_byte _ _ c.args.reader.now.rest.now c.in-Some.number _ read (lt-leb c.in-Some.number last_key c.in_default-new.ensures)
 
 pub returns : goal.returns
 returns c =
-    let read = ap two_byte.read c.in-Some.ensures ∙ two_byte_join c.in-Some.number c.two.new.self.rest.now in
+    let read = ap two_byte.read c.in-Some.ensures ∙ two_byte_join c.in-Some.number c.number.new.self.rest.now in
     let same = c.in-Some-new.ensures in
     only_on two_byte _ _ c.args.reader.now.rest.now c.in-Some.number _ read (le-leb c.in-Some.number last_key (omega (arith, same, c.in-Some-new.key.known))) ∙
-    ap (λ (k : ℕ). Ok (k, c.two.new.self.rest.now)) (sym same)
+    ap (λ (k : ℕ). Ok (k, c.number.new.self.rest.now)) (sym same)

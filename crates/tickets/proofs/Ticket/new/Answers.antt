@@ -33,7 +33,7 @@ returns c =
     let grown = c.in_ok-mac.ensures.grown in
     let empty = ap (λ (ls : List Bytes). pushed c.new-lines.result.place ls c.args.first.now) (sym c.new-lines.ensures.lines) in
     let first : c.mac-start.result.bytes ≡ hmac_of c.args.house.bytes (four_bytes c.args.number) =
-    c.mac-start.ensures ∙ ap (hmac_of c.args.house.bytes) c.four_bytes.ensures in
+    c.mac-start.ensures ∙ ap (hmac_of c.args.house.bytes) c.to_bytes.ensures in
     let maced = grown.1 ∙ ap (λ (b : Bytes). hmac_of b c.args.first.now) first in
     let made =
     line_grown _ c.args.first.now start c.new-lines.ensures.place _ (empty ∙ grown.0) ∙

@@ -24,13 +24,13 @@ pub returns-in_err-lines : goal.returns-in_err-lines
 unfolding row
 returns-in_err-lines c =
     let p = err_from_is_err_and c.from_residual-in_err-lines.result c.from_residual-in_err-lines.ensures.1 in
-    let number = ap (fixed number_length).read c.in-Some.ensures ∙ fixed_join number_length (four_bytes c.in-Some.number) c.four.new.self.rest.now refl in
+    let number = ap (fixed number_length).read c.in-Some.ensures ∙ fixed_join number_length (four_bytes c.in-Some.number) c.number.new.self.rest.now refl in
     rw (p.1, p.2) (behind_on _ ticket_kind _ _ c.in_ok-read_kind.ensures ∙ named_stop _ _ _ _ _ (both_second _ _ _ _ _ number _ (only_stop _ _ _ _ _ c.in_err-lines.ensures)))
 
 pub returns-then-len-eq0 : goal.returns-then-len-eq0
 unfolding row
 returns-then-len-eq0 c =
-    let number = ap (fixed number_length).read c.in-Some.ensures ∙ fixed_join number_length (four_bytes c.in-Some.number) c.four.new.self.rest.now refl in
+    let number = ap (fixed number_length).read c.in-Some.ensures ∙ fixed_join number_length (four_bytes c.in-Some.number) c.number.new.self.rest.now refl in
     behind_on _ ticket_kind _ _ c.in_ok-read_kind.ensures ∙
     named_stop _ _ _ _ _
     (both_second _ _ _ _ _ number _
@@ -42,7 +42,7 @@ invariant_of-result c = record { stands = ap on_ticket c.in_ok-lines.ensures.1; 
 pub returns : goal.returns
 unfolding row
 returns c =
-    let number = ap (fixed number_length).read c.in-Some.ensures ∙ fixed_join number_length (four_bytes c.in-Some.number) c.four.new.self.rest.now refl in
+    let number = ap (fixed number_length).read c.in-Some.ensures ∙ fixed_join number_length (four_bytes c.in-Some.number) c.number.new.self.rest.now refl in
     behind_on _ ticket_kind _ _ c.in_ok-read_kind.ensures ∙
     named_on _ _ _ _ _ _
     (both_on _ _ _ _ _ number _ _
