@@ -1,4 +1,5 @@
 pub mod Wire
 pub mod Standing
 pub mod Row
+pub mod Each
 pub mod Rowing

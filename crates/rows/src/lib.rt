@@ -2,10 +2,12 @@
 #![tactic(auto)]
 
 mod adding;
+mod each;
 mod reader;
 mod reading;
 mod row;
 
 pub use adding::most_lines;
+pub use each::Each;
 pub use reader::Reader;
 pub use row::Lines;
