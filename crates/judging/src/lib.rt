@@ -7,11 +7,14 @@ ghost use Rattle.judging.specs.Views.{bodies};
 ghost use Rattle.lines.specs.Meaning.{says};
 ghost use Rattle.rows.specs.Row.{rows};
 ghost use Rattle.wishes.specs.Views.{wish_view};
-ghost use Rattle.std.specs.Prelude.{◌≡◌};
+ghost use Rattle.std.specs.Prelude.{◌≡◌, Bool, position};
+ghost use Rattle.std.specs.Borrow.{Bor};
+ghost use Rattle.narrow.specs.Term.{Bytes};
 
 mod case;
 
 use case::Case;
+use rows::Lines;
 use tickets::{TicketBody, TiedYes};
 use wishes::Wish;
 
@@ -33,16 +36,31 @@ pub fn judge(wish: Wish, ticket: &TicketBody, yeses: &[TiedYes]) -> Result<(), F
 {
     let case = Case { wish, yeses };
     let lines = &ticket.lines;
-    if let Some(place) = lines.iter().position(|line| case.limit_fails(line)) {
+    if let Some(place) = first_failing(lines, |line| case.limit_fails(line)) {
         return Err(Failing::LimitFails(place));
     }
-    if let Some(place) = lines.iter().position(|line| case.no_yes(line)) {
+    if let Some(place) = first_failing(lines, |line| case.no_yes(line)) {
         return Err(Failing::NoYes(place));
     }
-    if let Some(place) = lines.iter().position(|line| case.none_holds(line)) {
+    if let Some(place) = first_failing(lines, |line| case.none_holds(line)) {
         return Err(Failing::NoneHolds(place));
     }
     Ok(())
+}
+
+// The place of the first line that fails. The loop is left by its label as soon as one does.
+fn first_failing<F: Fn(&[u8]) -> bool>(lines: &Lines, fails: F) -> Option<usize>
+    requires { F.IsAlwaysCallable fails }
+    ensures { (test : Bytes → Bool) → ((x : Bor Bytes) (b : Bool) → F.post fails x b → b ≡ test x.now) → result ≡ position test (rows lines.now) }
+{
+    let mut failing = None;
+    'lines: for (place, line) in lines.iter().enumerate() {
+        if fails(line) {
+            failing = Some(place);
+            break 'lines;
+        }
+    }
+    failing
 }
 
 /// A judgement is told exactly if its cause holds, and a wish is let through exactly if all lines are met.
