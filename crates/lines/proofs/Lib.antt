@@ -1,5 +1,4 @@
 pub mod Rows
-pub mod Contents
 pub mod Fronts
 pub mod ByKind
 pub mod Told

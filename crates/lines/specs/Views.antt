@@ -10,11 +10,11 @@ use Rattle.lines.specs.declared.Line.{Line}
 use Rattle.lines.specs.declared.Line.TheVariants as line
 
 abbrev pub limit_view : Limit → LimitView
-limit_view (limit.Museums m) = MuseumIn (items m.list)
+limit_view (limit.Museums m) = MuseumIn (items m)
 limit_view (limit.Days s) = DayIn s.from s.to
 limit_view (limit.Minutes s) = MinuteIn s.from s.to
 limit_view (limit.Persons n) = PersonsUpTo n
-limit_view (limit.Name n) = NameIs (items n.letters)
+limit_view (limit.Name n) = NameIs (items n)
 
 abbrev pub line_view : Line → LineView
 line_view (line.Limit l) = ALimit (limit_view l)
@@ -23,6 +23,3 @@ line_view (line.Else k) = AnElse k.number
 -- what was read of a line
 abbrev pub line_read : Result Line Fault → Result LineView Fault
 line_read r = results.result_map_both line_view (λ f. f) r
-
-abbrev pub limit_read : Result Limit Fault → Result LineView Fault
-limit_read r = results.result_map_both (λ l. ALimit (limit_view l)) (λ f. f) r

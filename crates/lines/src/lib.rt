@@ -5,9 +5,9 @@ ghost use Rattle.lines.specs.Format.{line_bytes};
 ghost use Rattle.lines.specs.Meaning.{holds_for, may_stand};
 ghost use Rattle.lines.specs.Reading.{line_of};
 ghost use Rattle.lines.specs.Shapes.{Tells};
-ghost use Rattle.lines.specs.Views.{limit_view, line_view, line_read, limit_read};
+ghost use Rattle.lines.specs.Views.{limit_view, line_view, line_read};
 ghost use Rattle.numbers.specs.Lent.{WritesFront};
-ghost use Rattle.std.specs.Prelude.{◌≡◌, ◌∷◌, length, Ok, ◌≢◌};
+ghost use Rattle.std.specs.Prelude.{◌≡◌, length, Ok};
 ghost use Rattle.wishes.specs.Views.{wish_view};
 
 mod kinds;
@@ -15,11 +15,12 @@ pub mod laws;
 mod reading;
 mod writing;
 
-use kinds::{DAYS_KIND, ELSE_KIND, MINUTES_KIND, MUSEUMS_KIND, NAME_KIND, PERSONS_KIND};
+use kinds::Kind;
+use numbers::Number;
 pub use parts::{KeyNumber, Museums, Name, Span};
-use reading::{read_key, read_museums, read_name, read_persons, read_span};
+use reading::read_content;
 pub use wishes::{RawWish, Wish, read_wish};
-use writing::write_else;
+use writing::write_line;
 
 /// What is wrong with bytes that can't be read. Its number is given by `fault_number` in specs/.
 #[derive(Clone, Copy, PartialEq, Eq, Debug)]
@@ -58,7 +59,7 @@ pub enum Line {
 }
 
 /// What a line stands on.
-#[derive(Clone, Copy)]
+#[derive(Clone, Copy, PartialEq, Eq, Debug)]
 pub enum Place {
     Ticket,
     Yes,
@@ -72,54 +73,8 @@ pub fn read_line(bytes: &[u8]) -> Result<Line, Fault>
     let [kind, content @ ..] = bytes else {
         return Err(Fault::Shape);
     };
-    if *kind == ELSE_KIND {
-        let Some(key) = read_key(content) else {
-            return Err(Fault::Unreadable);
-        };
-        return Ok(Line::Else(key));
-    }
-    let limit = read_limit(*kind, content)?;
-    Ok(Line::Limit(limit))
-}
-
-// Reads a limit by its kind and all that follows.
-fn read_limit(kind: u8, content: &[u8]) -> Result<Limit, Fault>
-    requires { kind ≢ 6 }
-    ensures { limit_read result ≡ line_of (kind ∷ content.now) }
-{
-    match kind {
-        MUSEUMS_KIND => {
-            let Some(museums) = read_museums(content) else {
-                return Err(Fault::Unreadable);
-            };
-            Ok(Limit::Museums(museums))
-        }
-        DAYS_KIND => {
-            let Some(days) = read_span(content) else {
-                return Err(Fault::Unreadable);
-            };
-            Ok(Limit::Days(days))
-        }
-        MINUTES_KIND => {
-            let Some(minutes) = read_span(content) else {
-                return Err(Fault::Unreadable);
-            };
-            Ok(Limit::Minutes(minutes))
-        }
-        PERSONS_KIND => {
-            let Some(persons) = read_persons(content) else {
-                return Err(Fault::Unreadable);
-            };
-            Ok(Limit::Persons(persons))
-        }
-        NAME_KIND => {
-            let Some(name) = read_name(content) else {
-                return Err(Fault::Unreadable);
-            };
-            Ok(Limit::Name(name))
-        }
-        _ => Err(Fault::Shape),
-    }
+    let kind = Kind::try_from(*kind)?;
+    read_content(kind, content).ok_or(Fault::Unreadable)
 }
 
 impl Limit {
@@ -166,7 +121,7 @@ impl Line {
     {
         match self {
             Line::Limit(limit) => limit.write(out),
-            Line::Else(key) => write_else(key, out),
+            Line::Else(key) => write_line(Kind::Else, &key.get().to_bytes(), &[], out),
         }
     }
 }

@@ -1,39 +1,50 @@
 // The content of lines, which is all that follows the kind. Each reader takes the whole of it; `None` if no such line has it.
-ghost use Rattle.std.specs.Prelude.{◌≡◌, ℕ, ◌≤◌, true, List, length, MatchOption, ◌≢◌, slice_index};
+ghost use Rattle.std.specs.Prelude.{◌≡◌, ℕ, ◌≤◌, true, List, ◌∷◌, length, MatchOption, ◌≢◌, slice_index};
+ghost use Rattle.std.specs.Option.{ok_or, option_map};
+ghost use Rattle.lines.specs.declared.Fault.TheVariants.{Unreadable};
 ghost use Rattle.lines.specs.Format.{span_bytes};
+ghost use Rattle.lines.specs.Kinds.{kind_number};
+ghost use Rattle.lines.specs.Reading.{line_of};
+ghost use Rattle.lines.specs.Views.{line_view};
 ghost use Rattle.numbers.specs.Bytes.{two_bytes};
 ghost use Rattle.parts.specs.Items.{items};
-ghost use Rattle.parts.specs.Limits.{is_museums, is_name};
+ghost use Rattle.parts.specs.Limits.{is_short};
 ghost use Rattle.wishes.specs.Format.{counted_bytes};
 
-use parts::{KeyNumber, Museums, Name, Span};
+use crate::kinds::Kind;
+use crate::{Limit, Line};
+use parts::{KeyNumber, Short, Span};
+
+pub fn read_content(kind: Kind, content: &[u8]) -> Option<Line>
+    ensures { ok_or (option_map line_view result) Unreadable ≡ line_of (kind_number kind ∷ content.now) }
+{
+    let limit = match kind {
+        Kind::Museums => Limit::Museums(read_counted(content)?),
+        Kind::Days => Limit::Days(read_span(content)?),
+        Kind::Minutes => Limit::Minutes(read_span(content)?),
+        Kind::Persons => Limit::Persons(read_persons(content)?),
+        Kind::Name => Limit::Name(read_counted(content)?),
+        Kind::Else => return Some(Line::Else(read_key(content)?)),
+    };
+    Some(Line::Limit(limit))
+}
 
 // A count, and so many bytes.
-fn read_counted(content: &[u8]) -> Option<&[u8]>
-    ensures { MatchOption result ((xs : List ℕ) → content.now ≢ counted_bytes xs) (λ xs. content.now ≡ counted_bytes xs.now) }
+fn read_counted<const LEAST: usize, const MOST: usize, const LOW: u8, const HIGH: u8>(
+    content: &[u8],
+) -> Option<Short<LEAST, MOST, LOW, HIGH>>
+    ensures { MatchOption result
+        ((xs : List ℕ) → is_short LEAST MOST LOW HIGH xs ≡ true → content.now ≢ counted_bytes xs)
+        (λ s. content.now ≡ counted_bytes (items s)) }
 {
-    let [count, rest @ ..] = content else {
-        return None;
-    };
+    let (count, rest) = content.split_first()?;
     if rest.len() != usize::from(*count) {
         return None;
     }
-    Some(rest)
+    Short::new(rest)
 }
 
-pub fn read_museums(content: &[u8]) -> Option<Museums>
-    ensures { MatchOption result ((ms : List ℕ) → is_museums ms ≡ true → content.now ≢ counted_bytes ms) (λ m. content.now ≡ counted_bytes (items m.list)) }
-{
-    Museums::new(read_counted(content)?)
-}
-
-pub fn read_name(content: &[u8]) -> Option<Name>
-    ensures { MatchOption result ((ls : List ℕ) → is_name ls ≡ true → content.now ≢ counted_bytes ls) (λ n. content.now ≡ counted_bytes (items n.letters)) }
-{
-    Name::new(read_counted(content)?)
-}
-
-pub fn read_span(content: &[u8]) -> Option<Span>
+fn read_span(content: &[u8]) -> Option<Span>
     ensures { MatchOption result ((a b : ℕ) → a ≤ b → content.now ≢ span_bytes a b) (λ s. content.now ≡ span_bytes s.from s.to) }
 {
     let (from, rest) = numbers::read(content)?;
@@ -44,7 +55,7 @@ pub fn read_span(content: &[u8]) -> Option<Span>
     Span::new(from, to)
 }
 
-pub fn read_persons(content: &[u8]) -> Option<u8>
+fn read_persons(content: &[u8]) -> Option<u8>
     ensures { MatchOption result (length content.now ≢ 1) (λ n. (length content.now ≡ 1) × (n ≡ slice_index content.now 0)) }
 {
     let [persons] = content else {
@@ -53,7 +64,7 @@ pub fn read_persons(content: &[u8]) -> Option<u8>
     Some(*persons)
 }
 
-pub fn read_key(content: &[u8]) -> Option<KeyNumber>
+fn read_key(content: &[u8]) -> Option<KeyNumber>
     ensures { MatchOption result ((k : ℕ) → k ≤ 4095 → content.now ≢ two_bytes k) (λ k. content.now ≡ two_bytes k.number) }
 {
     let (number, rest) = numbers::read(content)?;

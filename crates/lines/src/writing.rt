@@ -1,15 +1,16 @@
-// Limits, and the shapes of lines, written to the front of lent slices; `None` if there is no room, and then nothing is written.
-ghost use Rattle.std.specs.Prelude.{◌≡◌, ◌≤◌, true, [], ◌∷◌, length};
+// Limits and lines in bytes, at the front of lent slices.
+ghost use Rattle.std.specs.Prelude.{◌≡◌, ◌<◌, ◌≤◌, ◌+◌, true, ◌∷◌, ◌++◌, length};
 ghost use Rattle.lines.specs.Format.{span_bytes, limit_bytes};
+ghost use Rattle.lines.specs.Kinds.{kind_number};
 ghost use Rattle.lines.specs.Views.{limit_view};
-ghost use Rattle.numbers.specs.Bytes.{two_bytes};
 ghost use Rattle.numbers.specs.Lent.{WritesFront};
 ghost use Rattle.parts.specs.Limits.{is_limit};
 ghost use Rattle.wishes.specs.Format.{counted_bytes};
 
 use crate::Limit;
-use crate::kinds::{DAYS_KIND, ELSE_KIND, MINUTES_KIND, MUSEUMS_KIND, NAME_KIND, PERSONS_KIND};
-use parts::{KeyNumber, Span};
+use crate::kinds::Kind;
+use numbers::Number;
+use parts::Span;
 
 impl Limit {
     pub(crate) fn len(self) -> usize
@@ -28,59 +29,40 @@ impl Limit {
         ensures possible { is_limit (limit_view self) ≡ true }
     {
         match self {
-            Limit::Museums(museums) => write_counted(MUSEUMS_KIND, museums.as_slice(), out),
-            Limit::Days(days) => write_span(DAYS_KIND, days, out),
-            Limit::Minutes(minutes) => write_span(MINUTES_KIND, minutes, out),
-            Limit::Persons(persons) => write_persons(persons, out),
-            Limit::Name(name) => write_counted(NAME_KIND, name.as_slice(), out),
+            Limit::Museums(museums) => write_counted(Kind::Museums, museums.as_slice(), out),
+            Limit::Days(days) => write_span(Kind::Days, days, out),
+            Limit::Minutes(minutes) => write_span(Kind::Minutes, minutes, out),
+            Limit::Persons(persons) => write_line(Kind::Persons, &[persons], &[], out),
+            Limit::Name(name) => write_counted(Kind::Name, name.as_slice(), out),
         }
     }
 }
 
-fn write_counted(kind: u8, items: &[u8], out: &mut [u8]) -> Option<usize>
+fn write_counted(kind: Kind, items: &[u8], out: &mut [u8]) -> Option<usize>
     requires { length items.now ≤ 32 }
-    ensures { WritesFront (kind ∷ counted_bytes items.now) out.old out.new result }
+    ensures { WritesFront (kind_number kind ∷ counted_bytes items.now) out.old out.new result }
 {
-    let length = 2 + items.len();
+    write_line(kind, &[items.len() as u8], items, out)
+}
+
+fn write_span(kind: Kind, span: Span, out: &mut [u8]) -> Option<usize>
+    ensures { WritesFront (kind_number kind ∷ span_bytes span.from span.to) out.old out.new result }
+{
+    write_line(kind, &span.from.to_bytes(), &span.to.to_bytes(), out)
+}
+
+/// Writes a kind and its content, in two parts. `None` if there is no room, and then nothing is written.
+pub fn write_line(kind: Kind, first: &[u8], rest: &[u8], out: &mut [u8]) -> Option<usize>
+    requires { length first.now + length rest.now < 256 }
+    ensures { WritesFront (kind_number kind ∷ first.now ++ rest.now) out.old out.new result }
+{
+    let middle = 1 + first.len();
+    let length = middle + rest.len();
     if out.len() < length {
         return None;
     }
-    out[0] = kind;
-    out[1] = items.len() as u8;
-    out[2..length].copy_from_slice(items);
+    out[0] = u8::from(kind);
+    out[1..middle].copy_from_slice(first);
+    out[middle..length].copy_from_slice(rest);
     Some(length)
-}
-
-fn write_span(kind: u8, span: Span, out: &mut [u8]) -> Option<usize>
-    ensures { WritesFront (kind ∷ span_bytes span.from span.to) out.old out.new result }
-{
-    if out.len() < 5 {
-        return None;
-    }
-    out[0] = kind;
-    numbers::put(&mut out[1..3], span.from)?;
-    numbers::put(&mut out[3..5], span.to)?;
-    Some(5)
-}
-
-fn write_persons(persons: u8, out: &mut [u8]) -> Option<usize>
-    ensures { WritesFront (4 ∷ persons ∷ []) out.old out.new result }
-{
-    if out.len() < 2 {
-        return None;
-    }
-    out[0] = PERSONS_KIND;
-    out[1] = persons;
-    Some(2)
-}
-
-pub fn write_else(key: KeyNumber, out: &mut [u8]) -> Option<usize>
-    ensures { WritesFront (6 ∷ two_bytes key.number) out.old out.new result }
-{
-    if out.len() < 3 {
-        return None;
-    }
-    out[0] = ELSE_KIND;
-    numbers::put(&mut out[1..3], key.get())?;
-    Some(3)
 }

@@ -1,13 +1,24 @@
--- Rows of bytes, element by element. Assumes nothing.
-use Rattle.std.proofs.Common.{◌≡◌, ℕ, ◌+◌, ◌<◌, Bool, ◌&&◌, List, ◌++◌, length, get_or, take, drop, refl}
-use Rattle.std.proofs.lemmas.List.{at_drop_more, take_at}
+-- Rows of bytes, by how many they are and element by element. Assumes nothing.
+use Rattle.std.proofs.Common.{◌≡◌, ℕ, zero, suc, Bool, true, ◌&&◌, leb, List, [], ◌∷◌, length, sym, refl, ap, ◌∙◌, arith}
+use Rattle.std.specs.List.{list_all}
+use Rattle.std.proofs.lemmas.Bool.{and_parts, le-leb}
 use Rattle.narrow.specs.Rows.{all}
+use Rattle.parts.specs.Limits.{within, enough, is_short}
 
--- what holds of all from a place on, by what stands there
-pub all_step : (f : ℕ → Bool) (xs : List ℕ) (i : ℕ) → i < length xs → all f (drop i xs) ≡ (f (get_or xs i 0) && all f (drop (i + 1) xs))
+enough_is : (least n : ℕ) → leb least n ≡ enough least n
+enough_is zero n = le-leb 0 n (omega arith)
+enough_is (suc least) n = refl
+
+-- what `all` of an iterator answers
+all_is : (f : ℕ → Bool) (xs : List ℕ) → list_all f xs ≡ all f xs
 unfolding all
-all_step f xs i h = at_drop_more (all f) xs i 0 h
+all_is f [] = refl
+all_is f (x ∷ xs) = ap (λ (b : Bool). f x && b) (all_is f xs)
 
--- a front that holds just these
-pub front_is : (xs ys rest : List ℕ) → ys ≡ xs → take (length xs) (ys ++ rest) ≡ xs
-front_is xs ys rest e = rw e (take_at xs rest (length xs) refl)
+-- whether bytes can be, where there are as many as there may be
+pub short_is : (least most low high : ℕ) (bs : List ℕ) → within least most (length bs) ≡ true → list_all (within low high) bs ≡ is_short least most low high bs
+short_is least most low high bs few =
+    let both = and_parts (leb least (length bs)) (leb (length bs) most) few in
+    let below : enough least (length bs) ≡ true = sym (enough_is least (length bs)) ∙ both.0 in
+    let above : leb (length bs) most ≡ true = both.1 in
+    rw (below, above) (all_is (within low high) bs)

@@ -1,5 +1,5 @@
 -- Wishes, limits and lines as values, and which of them can be. Assumes nothing.
-use Rattle.std.specs.Prelude.{ℕ, Bool, ◌&&◌, List, length, nat_le}
+use Rattle.std.specs.Prelude.{ℕ, zero, suc, Bool, true, ◌&&◌, List, length, nat_le}
 use Rattle.narrow.specs.Rows.{all}
 
 -- a limit (a first-party caveat): the museum is one of these; the day, and the minute of it, lies in a span; at most so many persons;
@@ -35,6 +35,15 @@ longest_name = 32
 
 abbrev pub last_key : ℕ
 last_key = 4095
+
+-- at least so many; of none that says nothing
+abbrev pub enough : ℕ → ℕ → Bool
+enough zero n = true
+enough (suc least) n = nat_le (suc least) n
+
+-- from so many to so many bytes, each from one value to another
+abbrev pub is_short : ℕ → ℕ → ℕ → ℕ → List ℕ → Bool
+is_short least most low high bs = enough least (length bs) && nat_le (length bs) most && all (within low high) bs
 
 -- museums are numbered from 1 to 200
 abbrev pub is_museum : ℕ → Bool

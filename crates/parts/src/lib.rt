@@ -2,30 +2,20 @@
 #![tactic(auto)]
 
 ghost use Rattle.std.specs.Prelude.{◌≡◌, ◌<◌, ◌≤◌, true, false, MatchOption};
-ghost use Rattle.parts.specs.Items.{items};
-ghost use Rattle.parts.specs.Limits.{is_museums, is_name, within};
-ghost use Rattle.narrow.specs.Rows.{all};
+ghost use Rattle.parts.specs.Limits.{within};
 
 mod short;
 
-use short::Short;
+pub use short::Short;
 
 /// 1 to 8 museums, each numbered from 1 to 200, in any order; one may stand twice.
-#[derive(Clone, Copy)]
-pub struct Museums {
-    list: Short,
-    ghost possible: { is_museums (items list) ≡ true },
-}
+pub type Museums = Short<1, 8, 1, 200>;
 
 /// Up to 32 small letters, a to z.
-#[derive(Clone, Copy)]
-pub struct Name {
-    letters: Short,
-    ghost possible: { is_name (items letters) ≡ true },
-}
+pub type Name = Short<0, 32, b'a', b'z'>;
 
 /// Numbers from one to another, both included.
-#[derive(Clone, Copy)]
+#[derive(Clone, Copy, PartialEq, Eq, Debug)]
 pub struct Span {
     pub from: u16,
     pub to: u16,
@@ -33,48 +23,10 @@ pub struct Span {
 }
 
 /// The number of a key of yeses.
-#[derive(Clone, Copy, PartialEq, Eq, Hash)]
+#[derive(Clone, Copy, PartialEq, Eq, Hash, Debug)]
 pub struct KeyNumber {
     number: u16,
     ghost known: { number ≤ 4095 },
-}
-
-impl Museums {
-    /// `None` if these can't be.
-    pub fn new(numbers: &[u8]) -> Option<Museums>
-        ensures { MatchOption result (is_museums numbers.now ≡ false) (λ m. items m.list ≡ numbers.now) }
-    {
-        if numbers.is_empty() || numbers.len() > 8 || !all_within(numbers, 1, 200) {
-            return None;
-        }
-        let list = Short::new(numbers)?;
-        Some(Museums { list })
-    }
-
-    pub fn as_slice(&self) -> &[u8]
-        ensures { result.now ≡ items self.now.list }
-    {
-        self.list.as_slice()
-    }
-}
-
-impl Name {
-    /// `None` if these are too many, or one is no small letter.
-    pub fn new(letters: &[u8]) -> Option<Name>
-        ensures { MatchOption result (is_name letters.now ≡ false) (λ n. items n.letters ≡ letters.now) }
-    {
-        if !all_within(letters, b'a', b'z') {
-            return None;
-        }
-        let letters = Short::new(letters)?;
-        Some(Name { letters })
-    }
-
-    pub fn as_slice(&self) -> &[u8]
-        ensures { result.now ≡ items self.now.letters }
-    {
-        self.letters.as_slice()
-    }
 }
 
 impl Span {
@@ -91,7 +43,7 @@ impl Span {
     pub fn contains(self, number: u16) -> bool
         ensures { result ≡ within self.from self.to number }
     {
-        self.from <= number && number <= self.to
+        (self.from..=self.to).contains(&number)
     }
 }
 
@@ -111,15 +63,4 @@ impl KeyNumber {
     {
         self.number
     }
-}
-
-fn all_within(bytes: &[u8], low: u8, high: u8) -> bool
-    ensures { result ≡ all (within low high) bytes.now }
-{
-    for byte in bytes {
-        if *byte < low || *byte > high {
-            return false;
-        }
-    }
-    true
 }

@@ -79,10 +79,7 @@ fn write_list<W: fmt::Write>(numbers: &[u8], f: &mut fmt::Formatter<W>) -> fmt::
 
 // Its letters as text. They are ASCII, so there is no `Err`.
 fn text_of(name: &Name) -> Result<&str, fmt::Error>
-    ensures { MatchResult result (λ s. s.now ≡ items name.now.letters) (λ _. ⊥) }
+    ensures { MatchResult result (λ s. s.now ≡ items name.now) (λ _. ⊥) }
 {
-    match from_utf8(name.as_slice()) {
-        Ok(text) => Ok(text),
-        Err(_) => Err(fmt::Error),
-    }
+    from_utf8(name.as_slice()).map_err(|_| fmt::Error)
 }

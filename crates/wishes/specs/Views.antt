@@ -9,7 +9,7 @@ use Rattle.wishes.specs.declared.wish.Wish.{Wish}
 
 abbrev pub wish_view : Wish → WishView
 wish_view w =
-    record { museum = w.museum; day = w.day; minute = w.minute; persons = w.persons; name = items w.name.letters }
+    record { museum = w.museum; day = w.day; minute = w.minute; persons = w.persons; name = items w.name }
 
 abbrev pub raw_view : RawWish → WishView
 raw_view w =

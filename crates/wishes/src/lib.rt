@@ -57,7 +57,11 @@ impl RawWish<'_> {
             persons,
             name,
         } = self;
-        if museum < 1 || museum > 200 || day < 1 || minute > 1439 || persons < 1 || persons > 200 {
+        if !(1..=200).contains(&museum)
+            || day < 1
+            || minute > 1439
+            || !(1..=200).contains(&persons)
+        {
             return None;
         }
         let name = Name::new(name)?;
@@ -85,7 +89,7 @@ impl Wish {
         ensures possible { in_range (wish_view self) ≡ true }
     {
         let name = self.name.as_slice();
-        let length = 8 + name.len();
+        let length = self.len();
         if out.len() < length {
             return None;
         }

@@ -1,12 +1,16 @@
-use Rattle.std.proofs.Common.{◌≡◌, ℕ, ◌-◌, ◌<◌, List, ◌∷◌, length, get_or, take, drop, Result, sym, ap, ◌∙◌, subst, arith, rules}
+use Rattle.std.proofs.Common.{◌≡◌, ℕ, ◌-◌, ◌<◌, List, ◌∷◌, length, get_or, take, drop, Some, None, Option, Result, refl, sym, ap, ◌∙◌, subst, arith, rules}
 use Rattle.std.proofs.lemmas.Slice.{first_rest}
 use Rattle.std.proofs.lemmas.Result.{err_from_is_err_and}
 use Rattle.numbers.specs.Places.{AreBytes}
 use Rattle.parts.specs.Limits.{LineView}
+use Rattle.std.specs.Option.{ok_or, option_map}
 use Rattle.lines.specs.declared.Fault.{Fault}
+use Rattle.lines.specs.declared.Fault.TheVariants.{Unreadable}
+use Rattle.lines.specs.declared.Line.{Line}
+use Rattle.lines.specs.Views.{line_view, line_read}
 use Rattle.lines.specs.Reading.{line_of}
 use Rattle.lines.specs.Shapes.{Tells}
-use Rattle.lines.proofs.ByKind.{no_line, not_else, else_line}
+use Rattle.lines.proofs.ByKind.{no_line, no_kind}
 use Rattle.lines.proofs.Told.{told}
 use Rattle.lines.proofs.read_line.Goals as goal
 
@@ -24,24 +28,22 @@ both bs r bytes e = record { value = e; told = subst (Tells bs) (sym e) (told bs
 pub returns-in_default : goal.returns-in_default
 returns-in_default c = both c.args.bytes.now _ (λ i. omega (arith, c.type_inv.bytes i)) (no_line c.args.bytes.now (search rules))
 
-pub returns-in_default-read_key : goal.returns-in_default-read_key
-returns-in_default-read_key c =
-    both c.args.bytes.now _ (λ i. omega (arith, c.type_inv.bytes i))
-    (not_else (get_or c.args.bytes.now 0 0) _ c.if-kind-eq-ELSE_KIND.true c.in_default-read_key.ensures
-    ∙ kind_first c.args.bytes.now (search rules))
+-- what is read of a content, and what of the line
+read_or : (o : Option Line) (r : Result Line Fault) → r ≡ ok_or o Unreadable → line_read r ≡ ok_or (option_map line_view o) Unreadable
+read_or None r e = rw e refl
+read_or (Some l) r e = rw e refl
 
-pub returns-then-kind-eq-ELSE_KIND : goal.returns-then-kind-eq-ELSE_KIND
-returns-then-kind-eq-ELSE_KIND c =
-    both c.args.bytes.now _ (λ i. omega (arith, c.type_inv.bytes i))
-    (else_line (get_or c.args.bytes.now 0 0) _ c.in-Some.key.number c.if-kind-eq-ELSE_KIND.true c.in-Some.key.known c.in-Some.ensures
-    ∙ kind_first c.args.bytes.now (search rules))
+pub returns-in_err-kind : goal.returns-in_err-kind
+returns-in_err-kind c =
+    let p = err_from_is_err_and c.from_residual.result c.from_residual.ensures.1 in
+    let none = c.in_err-kind.ensures in
+    rw (p.1, p.2, none.0)
+    (both c.args.bytes.now _ (λ i. omega (arith, c.type_inv.bytes i)) (no_kind (get_or c.args.bytes.now 0 0) _ none.1 ∙ kind_first c.args.bytes.now (search rules)))
 
 pub returns : goal.returns
 returns c =
-    both c.args.bytes.now _ (λ i. omega (arith, c.type_inv.bytes i)) (c.in_ok-limit.ensures ∙ kind_first c.args.bytes.now (search rules))
-
-pub returns-in_err-limit : goal.returns-in_err-limit
-returns-in_err-limit c =
-    let p = err_from_is_err_and c.from_residual.result c.from_residual.ensures.1 in
-    rw (p.1, p.2)
-    (both c.args.bytes.now _ (λ i. omega (arith, c.type_inv.bytes i)) (c.in_err-limit.ensures ∙ kind_first c.args.bytes.now (search rules)))
+    let bytes = c.args.bytes.now in
+    let content = take (length bytes - 1) (drop 1 bytes) in
+    let first = ap (λ (k : ℕ). line_of (k ∷ content)) (sym c.in_ok-kind.ensures) in
+    both bytes _ (λ i. omega (arith, c.type_inv.bytes i))
+    (read_or c.read_content.result c.ok_or.result c.ok_or.ensures.value ∙ c.read_content.ensures ∙ first ∙ kind_first bytes (search rules))

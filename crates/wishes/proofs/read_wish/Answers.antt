@@ -1,4 +1,4 @@
-use Rattle.std.proofs.Common.{rules, ◌≡◌, ℕ, ◌-◌, ◌<◌, ◌≤◌, List, length, get_or, take, drop, ap, arith, length-drop, take-append-drop}
+use Rattle.std.proofs.Common.{rules, ◌≡◌, ℕ, ◌-◌, ◌<◌, List, length, get_or, take, drop, ap, arith, length-drop, take-append-drop}
 use Rattle.std.proofs.lemmas.List.{take_rest}
 use Rattle.numbers.proofs.Bytes.{two_and_rest}
 use Rattle.wishes.proofs.Decoding.{wish_too_short, wish_other_kind, wish_cut, wish_whole}
