@@ -1,10 +1,11 @@
 -- Where the text of a statement that makes something is cut. Assumes nothing.
 use Rattle.std.specs.Prelude.{ℕ, Bool, cond, List, [], ◌∷◌, Ok, Err, codes, Result, ◌==◌}
+use Rattle.std.specs.Option.{ok_or}
 use Rattle.std.specs.Str.{bytes_eq}
 use Rattle.parts.specs.Limits.{LineView}
 use Rattle.texts.specs.declared.Cause.{Cause}
 use Rattle.texts.specs.declared.Cause.TheVariants.{UnknownWord, MissingWord}
-use Rattle.texts.specs.Cuts.{parts, or_else, head_tail, words_of, last_word}
+use Rattle.texts.specs.Cuts.{parts, head_tail, words_of, last_word}
 use Rattle.texts.specs.Labels.{pair_after}
 use Rattle.texts.specs.Results.{and_then, and_is}
 use Rattle.words.specs.Lines.{line_in}
@@ -16,7 +17,7 @@ semicolon b = b == 59
 -- `.. LABEL PERSON`, the last two words: what stands before them, and the person
 unfoldable pub ending : List ℕ → List ℕ → Result (List ℕ × List ℕ) Cause
 ending label text =
-    and_then (or_else MissingWord (last_word text)) (λ p. and_then (or_else MissingWord (last_word p.0)) (λ q. cond (bytes_eq q.1 label) (Ok (q.0, p.1)) (Err UnknownWord)))
+    and_then (ok_or (last_word text) MissingWord) (λ p. and_then (ok_or (last_word p.0) MissingWord) (λ q. cond (bytes_eq q.1 label) (Ok (q.0, p.1)) (Err UnknownWord)))
 
 -- each of these is a line
 abbrev pub every : List (List ℕ) → Result (List LineView) Cause

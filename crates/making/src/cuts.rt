@@ -2,7 +2,8 @@
 ghost use Rattle.std.specs.Prelude.{◌≡◌};
 ghost use Rattle.making.specs.Cuts.{ending, lines_in, limits_in, parts_in};
 ghost use Rattle.making.specs.Views.{parts_read};
-ghost use Rattle.statements.specs.Views.{Told, lines_view};
+ghost use Rattle.statements.specs.Views.{lines_view};
+ghost use Rattle.texts.specs.Told.{Told};
 ghost use Rattle.texts.specs.Results.{cut_read};
 
 use lines::Line;
@@ -38,12 +39,8 @@ pub fn parts_of<'a>(label: &str, end: &str, text: &'a str) -> Result<Making<'a>,
 fn ending_in<'a>(label: &str, text: &'a str) -> Result<(&'a str, &'a str), Cause>
     ensures { cut_read result ≡ ending label.now text.now }
 {
-    let Some((rest, person)) = last_word(text) else {
-        return Err(Cause::MissingWord);
-    };
-    let Some((front, word)) = last_word(rest) else {
-        return Err(Cause::MissingWord);
-    };
+    let (rest, person) = last_word(text).ok_or(Cause::MissingWord)?;
+    let (front, word) = last_word(rest).ok_or(Cause::MissingWord)?;
     if word != label {
         return Err(Cause::UnknownWord);
     }

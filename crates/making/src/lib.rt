@@ -8,7 +8,8 @@
 #![tactic(auto)]
 
 ghost use Rattle.making.specs.Forms.{ticket_said, yes_said, add_said, tie_said};
-ghost use Rattle.statements.specs.Views.{Told, stated};
+ghost use Rattle.statements.specs.Views.{stated};
+ghost use Rattle.texts.specs.Told.{Told};
 ghost use Rattle.texts.specs.Cuts.{words_of};
 
 mod cuts;
@@ -16,7 +17,7 @@ mod cuts;
 use cuts::{limits_in, lines_in, parts_of};
 use statements::{Statement, Trouble, owned_pair};
 use std::alloc::Global;
-use texts::{after_label, pair_after, wide_number};
+use texts::{after_label, number, pair_after};
 use words::key_of;
 
 /// `ticket T = NUMBER: LINE; LINE to PERSON`
@@ -24,7 +25,7 @@ pub fn read_ticket(heap: Global, text: &str) -> Result<Statement, Trouble>
     ensures { Told stated result (ticket_said text.now) }
 {
     let parts = parts_of("ticket", "to", text)?;
-    let number = wide_number(parts.word)?;
+    let number = number(parts.word)?;
     let lines = lines_in(heap, parts.front)?;
     let (name, person) = owned_pair(heap, parts.name, parts.person)?;
     Ok(Statement::Ticket {

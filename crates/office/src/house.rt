@@ -18,12 +18,8 @@ pub struct House {
 pub fn open(statements: &[Numbered]) -> Option<House>
     ensures { option_map key_of result ≡ opened (map numbered statements.now) }
 {
-    let [first, ..] = statements else {
-        return None;
-    };
-    match &first.statement {
-        Statement::House(seed) => Some(House {
-            key: house_key(seed.as_str()),
-        }),
-    }
+    let Statement::House(seed) = &statements.first()?.statement;
+    Some(House {
+        key: house_key(seed.as_str()),
+    })
 }

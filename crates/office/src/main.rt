@@ -31,10 +31,7 @@ fn main(rt: HostRuntime) -> ExitCode {
 }
 
 fn run(rt: &HostRuntime) -> Result<(), Reason> {
-    let args = match env::args(rt) {
-        Ok(args) => args,
-        Err(error) => return Err(of_arguments(error.kind())),
-    };
+    let args = env::args(rt).map_err(|error| of_arguments(error.kind()))?;
     let args: Vec<String> = args.skip(1).collect(rt.alloc())?;
     match read_arguments(args.as_slice())? {
         Asked::Help => help(rt),
@@ -43,18 +40,12 @@ fn run(rt: &HostRuntime) -> Result<(), Reason> {
 }
 
 fn help(rt: &HostRuntime) -> Result<(), Reason> {
-    match rt.println(USAGE) {
-        Ok(()) => Ok(()),
-        Err(_) => Err(Reason::Output),
-    }
+    rt.println(USAGE).map_err(|_| Reason::Output)
 }
 
 fn play(rt: &HostRuntime) -> Result<(), Reason> {
     let heap = rt.alloc();
-    let text = match io::read_to_string(heap, rt.stdin()) {
-        Ok(text) => text,
-        Err(error) => return Err(of_input(error.kind())),
-    };
+    let text = io::read_to_string(heap, rt.stdin()).map_err(|error| of_input(error.kind()))?;
     let script = read_script(heap, text.as_str())?;
     let _house = open(script.statements.as_slice());
     end(&script)

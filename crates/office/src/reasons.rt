@@ -7,6 +7,7 @@ ghost use Rattle.office.specs.declared.reasons.Reason.TheVariants.{Argument, Inp
 use script::Fault;
 use std::alloc::AllocError;
 use std::fmt;
+use std::fmt::Display;
 use std::io::ErrorKind;
 
 #[derive(Clone, Copy)]
@@ -30,11 +31,7 @@ impl fmt::Display for Reason {
             Reason::NotText => f.write_str("standard input is not UTF-8 text"),
             Reason::Output => f.write_str("standard output can't be written"),
             Reason::NoMemory => f.write_str("no memory"),
-            Reason::Script(fault) => {
-                let line = fault.line;
-                let cause = fault.cause;
-                write!(f, "{line}: {cause}")
-            }
+            Reason::Script(fault) => fault.fmt(f),
         }
     }
 }
@@ -47,7 +44,8 @@ impl From<AllocError> for Reason {
     }
 }
 
-// Why standard input could not be read.
+// Why standard input could not be read. One kind of error is another reason here than among arguments, so that neither
+// is a `From`.
 pub fn of_input(kind: ErrorKind) -> Reason
     ensures text { kind ≡ InvalidData → result ≡ NotText }
     ensures memory { kind ≡ OutOfMemory → result ≡ NoMemory }

@@ -1,12 +1,13 @@
 // The statements by which the house is opened, and by which keys and things are given.
 ghost use Rattle.reading.specs.Forms.{house_said, key_said, gift_said, give_said};
 ghost use Rattle.reading.specs.Views.{gift_view};
-ghost use Rattle.statements.specs.Views.{Told, stated};
+ghost use Rattle.statements.specs.Views.{stated};
+ghost use Rattle.texts.specs.Told.{Told};
 ghost use Rattle.texts.specs.Cuts.{words_of};
 
 use statements::{Gift, Statement, Trouble, owned_pair};
 use std::alloc::Global;
-use texts::{Cause, after_label, next_word, only_after, pair_after};
+use texts::{after_label, only_after, pair_after, word_and_rest};
 use words::key_of;
 
 pub fn read_house(heap: Global, text: &str) -> Result<Statement, Trouble>
@@ -34,9 +35,7 @@ fn read_gift<'a>(heap: Global, text: &'a str) -> Result<(Gift, &'a str), Trouble
     if name != "key" {
         return Ok((Gift::Thing(String::from_str(heap, name)?), rest));
     }
-    let Some((key, rest)) = next_word(rest) else {
-        return Err(Trouble::Unreadable(Cause::MissingWord));
-    };
+    let (key, rest) = word_and_rest(rest)?;
     Ok((Gift::Key(key_of(key)?), rest))
 }
 

@@ -1,12 +1,13 @@
 // The statements that ask the house.
 ghost use Rattle.reading.specs.Forms.{wish_said, show_said};
 ghost use Rattle.std.specs.Prelude.{Ok};
-ghost use Rattle.statements.specs.Views.{Told, stated, names_view};
+ghost use Rattle.statements.specs.Views.{stated, names_view};
+ghost use Rattle.texts.specs.Told.{Told};
 ghost use Rattle.texts.specs.Cuts.{words_of};
 
 use statements::{Statement, Trouble, asked_in, owned_pair};
 use std::alloc::Global;
-use texts::{Cause, after_label, head_and_tail, next_word, only_after};
+use texts::{after_label, head_and_tail, next_word, only_after, word_and_rest};
 
 pub fn read_wish(heap: Global, text: &str) -> Result<Statement, Trouble>
     ensures { Told stated result (wish_said text.now) }
@@ -25,9 +26,7 @@ pub fn read_show(heap: Global, text: &str) -> Result<Statement, Trouble>
 {
     let (head, tail) = head_and_tail(text)?;
     let (person, rest) = after_label("show", head)?;
-    let Some((ticket, rest)) = next_word(rest) else {
-        return Err(Trouble::Unreadable(Cause::MissingWord));
-    };
+    let (ticket, rest) = word_and_rest(rest)?;
     let wish = asked_in(heap, tail)?;
     let tied = names_in(heap, rest)?;
     let (person, ticket) = owned_pair(heap, person, ticket)?;

@@ -1,5 +1,1 @@
-pub mod Cuts
 pub mod Senses
-pub mod Lines
-pub mod LineByLine
-pub mod Comments

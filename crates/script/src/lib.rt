@@ -1,19 +1,19 @@
 // The text of a script, read into numbered statements.
 //
-// A script has a statement a line. `#` begins a comment, which goes to the line's end. Words are parted by spaces, tabs
-// and carriage returns. A line with no word says nothing, and is counted.
+// A script has a statement a line; today there is one statement. `#` begins a comment, which goes to the line's end. Words
+// are parted by spaces, tabs and carriage returns. A line with no word says nothing, and is counted.
 #![tactic(auto)]
 
 ghost use Rattle.std.specs.Prelude.{◌≡◌, IfOk};
 ghost use Rattle.script.specs.Laws.{LineByLine, CommentsAside};
-ghost use Rattle.script.specs.Rules.{lines_in, reads};
+ghost use Rattle.script.specs.Rules.{reads};
 ghost use Rattle.script.specs.Views.{told};
+ghost use Rattle.scripting.specs.Rules.{lines_in};
 
 mod display;
-mod reading;
-mod words;
+mod house;
 
-use reading::{Reading, read_line};
+use house::HouseOnly;
 use std::alloc::{AllocError, Global};
 
 /// One thing that a script asks for, on a line of its own.
@@ -21,13 +21,6 @@ use std::alloc::{AllocError, Global};
 pub enum Statement {
     /// `house SEED` opens the house. All of its keys are worked out from the seed, a word, so that a script plays the same each time.
     House(String),
-}
-
-/// A statement and the number of its line. Lines are numbered from 1.
-#[derive(Drop)]
-pub struct Numbered {
-    pub line: usize,
-    pub statement: Statement,
 }
 
 /// Why a line can't be read.
@@ -41,19 +34,14 @@ pub enum Cause {
     LateHouse,
 }
 
+/// A statement and the number of its line. Lines are numbered from 1.
+pub type Numbered = scripting::Numbered<Statement>;
+
 /// A line that can't be read.
-#[derive(Clone, Copy)]
-pub struct Fault {
-    pub line: usize,
-    pub cause: Cause,
-}
+pub type Fault = scripting::Fault<Cause>;
 
 /// The statements before the first line that can't be read, in their order, and that line, if there is one.
-#[derive(Drop)]
-pub struct Script {
-    pub statements: Vec<Numbered>,
-    pub fault: Option<Fault>,
-}
+pub type Script = scripting::Script<Statement, Cause>;
 
 /// Reads any text whatever; only want of memory is an error.
 ///
@@ -64,27 +52,5 @@ pub fn read_script(heap: Global, text: &str) -> Result<Script, AllocError>
     ensures line_by_line { IfOk result (λ s. LineByLine (lines_in text.now) (told s)) }
     ensures comments_aside { IfOk result (λ s. CommentsAside text.now (told s)) }
 {
-    let mut statements = Vec::new(heap);
-    for (i, line) in text.split('\n').enumerate() {
-        let number = i + 1;
-        let begun = !statements.is_empty();
-        match read_line(heap, line, begun)? {
-            Reading::Nothing => {}
-            Reading::Says(statement) => statements.push(Numbered {
-                line: number,
-                statement,
-            })?,
-            Reading::Unreadable(cause) => {
-                let fault = Some(Fault {
-                    line: number,
-                    cause,
-                });
-                return Ok(Script { statements, fault });
-            }
-        }
-    }
-    Ok(Script {
-        statements,
-        fault: None,
-    })
+    scripting::read_script::<HouseOnly>(heap, text)
 }

@@ -17,9 +17,7 @@ mod tests {
             said.push_str(format!(in heap; "{line} {seed}; ")?.as_str())?;
         }
         if let Some(fault) = script.fault {
-            let line = fault.line;
-            let cause = fault.cause;
-            said.push_str(format!(in heap; "{line}: {cause}")?.as_str())?;
+            said.push_str(format!(in heap; "{fault}")?.as_str())?;
         }
         Ok(said)
     }

@@ -1,53 +1,19 @@
--- How a script's text is read, over its bytes. Assumes nothing.
-use Rattle.std.specs.Prelude.{ℕ, ◌+◌, Bool, true, false, cond, not, List, [], ◌∷◌, ◌++◌, Some, None, Ok, Err, Option, Result, ◌==◌}
-use Rattle.texts.specs.declared.Cause as text
-use Rattle.texts.specs.Cuts.{parts}
+-- What a line says, and what a script's text comes to. Assumes nothing.
+use Rattle.std.specs.Prelude.{ℕ, Bool, true, false, cond, not, List, Some, None, Ok, Err, Option, Result}
+use Rattle.std.specs.Result.{result_map_both}
+use Rattle.std.proofs.Common.{refl, inl, inr}
 use Rattle.reading.specs.Forms.{said_in}
 use Rattle.statements.specs.Said.{Said, house_of, key_to, ticket_to, yes_by, add_by, tie_by, given, wish_of, shown}
+use Rattle.scripting.specs.Laws.{AsAlone}
+use Rattle.scripting.specs.Rules as generic
 use Rattle.scripts.specs.declared.Cause.{Cause}
 use Rattle.scripts.specs.declared.Cause.TheVariants.{HouseFirst, Words}
-use Rattle.scripts.specs.declared.Fault.{Fault}
-
--- ---- a text and its lines
-
--- the byte that parts lines
-abbrev pub newline : ℕ → Bool
-newline b = b == 10
-
--- the byte that begins a comment
-abbrev pub hash : ℕ → Bool
-hash b = b == 35
-
--- what stands before the first byte that passes t
-abbrev pub before : (ℕ → Bool) → List ℕ → List ℕ
-before t [] = []
-before t (b ∷ bs) = cond (t b) [] (b ∷ before t bs)
-
--- the lines of a text
-abbrev pub lines_in : List ℕ → List (List ℕ)
-lines_in bs = parts newline bs
-
--- the part of a line that is no comment
-abbrev pub uncommented : List ℕ → List ℕ
-uncommented bs = before hash bs
 
 -- ---- what a line says
 
--- a line has no word, says something, or can't be read
-pub data Sense : Type 0 where
-  none : Sense
-  says : Said → Sense
-  stops : Cause → Sense
-
--- what was read of a line
-abbrev pub heard_as : Result (Option Said) text.Cause → Sense
-heard_as (Ok None) = none
-heard_as (Ok (Some s)) = says s
-heard_as (Err c) = stops (Words c)
-
--- what a line says by itself
-unfoldable pub alone : List ℕ → Sense
-alone line = heard_as (said_in (uncommented line))
+-- what a line's code says by itself
+unfoldable pub alone : List ℕ → Result (Option Said) Cause
+alone code = result_map_both (λ o. o) Words (said_in code)
 
 -- a statement that opens the house
 abbrev pub opens : Said → Bool
@@ -67,37 +33,31 @@ misplaced true s = opens s
 misplaced false s = not (opens s)
 
 -- the house is opened first, and only once
-abbrev pub placed : Bool → Sense → Sense
-placed begun none = none
-placed begun (says s) = cond (misplaced begun s) (stops HouseFirst) (says s)
-placed begun (stops c) = stops c
+abbrev pub placed : Bool → Result (Option Said) Cause → Result (Option Said) Cause
+placed begun (Ok None) = Ok None
+placed begun (Ok (Some s)) = cond (misplaced begun s) (Err HouseFirst) (Ok (Some s))
+placed begun (Err c) = Err c
 
--- what a line says; begun says that a statement stands before it
-abbrev pub sense : Bool → List ℕ → Sense
-sense begun line = placed begun (alone line)
+-- what a line's code says; begun says that a statement stands before it
+abbrev pub sense : Bool → List ℕ → Result (Option Said) Cause
+sense begun code = placed begun (alone code)
+
+-- a line says what it says by itself, or can't be read where it stands
+pub placed_alone : (begun : Bool) (q : Result (Option Said) Cause) → AsAlone q (placed begun q)
+placed_alone begun (Ok None) = inl refl
+placed_alone begun (Ok (Some s)) = by (misplaced begun s)
+  where
+    by : (b : Bool) → AsAlone {C = Cause} (Ok (Some s)) (cond b (Err HouseFirst) (Ok (Some s)))
+    by true = inr refl
+    by false = inl refl
+placed_alone begun (Err c) = inl refl
 
 -- ---- what a script says
 
 -- each statement with the number of its line, and the first line that can't be read
-pub record Outcome : Type 0 where
-  pub said : List (ℕ × Said)
-  pub stop : Option Fault
-
--- whether there is a statement
-abbrev pub some_of : List (ℕ × Said) → Bool
-some_of [] = false
-some_of (s ∷ ss) = true
-
--- what lines come to that are numbered from n, where said was said before them
-abbrev pub outcome : List (ℕ × Said) → ℕ → List (List ℕ) → Outcome
-outcome said n [] = record { said = said; stop = None }
-outcome said n (l ∷ ls) =
-    elim (sense (some_of said) l) [
-      | none ↦ outcome said (n + 1) ls
-      | says s ↦ outcome (said ++ (n, s) ∷ []) (n + 1) ls
-      | stops c ↦ record { said = said; stop = Some (record { line = n; cause = c }) }
-    ]
+abbrev pub Outcome : Type 0
+Outcome = generic.Outcome Said Cause
 
 -- what a text comes to
 abbrev pub reads : List ℕ → Outcome
-reads bs = outcome [] 1 (lines_in bs)
+reads bs = generic.reads sense bs

@@ -1,23 +1,20 @@
--- The code's values as the rules speak of them: a text is its bytes. Assumes nothing.
-use Rattle.std.specs.Prelude.{ℕ, map, vec_items}
-use Rattle.statements.specs.Said.{Said}
+-- The code's values as the rules speak of them. Assumes nothing.
+use Rattle.scripting.specs.Views as generic
+use Rattle.scripting.specs.declared.Script.{Script}
 use Rattle.statements.specs.Views.{stated}
-use Rattle.scripts.specs.declared.Numbered.{Numbered}
-use Rattle.scripts.specs.declared.Script.{Script}
-use Rattle.scripts.specs.declared.one_line.Reading.{Reading}
-use Rattle.scripts.specs.declared.one_line.Reading.TheVariants.{Nothing, Says, Unreadable}
-use Rattle.scripts.specs.Rules.{Sense, none, says, stops, Outcome}
-
--- what a reading says
-abbrev pub meant : Reading → Sense
-meant Nothing = none
-meant (Says s) = says (stated s)
-meant (Unreadable c) = stops c
-
--- a statement with its number
-abbrev pub numbered : Numbered → ℕ × Said
-numbered s = (s.line, stated s.statement)
+use Rattle.statements.specs.declared.Statement.{Statement}
+use Rattle.texts.specs.declared.Cause as text
+use Rattle.texts.specs.declared.trouble.Trouble.{Trouble}
+use Rattle.texts.specs.declared.trouble.Trouble.TheVariants.{Unreadable, NoMemory}
+use Rattle.scripts.specs.declared.Cause.{Cause}
+use Rattle.scripts.specs.declared.Cause.TheVariants.{Words}
+use Rattle.scripts.specs.Rules.{Outcome}
 
 -- what a script that was read tells
-abbrev pub told : Script → Outcome
-told s = record { said = map numbered (vec_items s.statements); stop = s.fault }
+abbrev pub told : Script Statement Cause → Outcome
+told s = generic.told stated s
+
+-- what is told of a statement, as it is told of a script
+abbrev pub in_words : Trouble text.Cause → Trouble Cause
+in_words (Unreadable c) = Unreadable (Words c)
+in_words NoMemory = NoMemory

@@ -5,23 +5,17 @@
 #![tactic(auto)]
 
 ghost use Rattle.std.specs.Prelude.{◌≡◌, IfOk};
+ghost use Rattle.scripting.specs.Rules.{lines_in};
 ghost use Rattle.scripts.specs.Laws.{LineByLine, HouseOpensFirst, CommentsAside};
-ghost use Rattle.scripts.specs.Rules.{lines_in, reads};
+ghost use Rattle.scripts.specs.Rules.{reads};
 ghost use Rattle.scripts.specs.Views.{told};
 
 mod display;
-mod one_line;
+mod whole;
 
-use one_line::{Reading, read_line};
 use statements::Statement;
 use std::alloc::{AllocError, Global};
-
-/// A statement and the number of its line. Lines are numbered from 1.
-#[derive(Drop)]
-pub struct Numbered {
-    pub line: usize,
-    pub statement: Statement,
-}
+use whole::AllStatements;
 
 /// Why a line can't be read.
 #[derive(Clone, Copy)]
@@ -32,19 +26,14 @@ pub enum Cause {
     Words(words::Cause),
 }
 
+/// A statement and the number of its line. Lines are numbered from 1.
+pub type Numbered = scripting::Numbered<Statement>;
+
 /// A line that can't be read.
-#[derive(Clone, Copy)]
-pub struct Fault {
-    pub line: usize,
-    pub cause: Cause,
-}
+pub type Fault = scripting::Fault<Cause>;
 
 /// The statements before the first line that can't be read, in their order, and that line, if there is one.
-#[derive(Drop)]
-pub struct Script {
-    pub statements: Vec<Numbered>,
-    pub fault: Option<Fault>,
-}
+pub type Script = scripting::Script<Statement, Cause>;
 
 /// Reads any text whatever; only want of memory is an error.
 ///
@@ -57,27 +46,5 @@ pub fn read_script(heap: Global, text: &str) -> Result<Script, AllocError>
     ensures house_first { IfOk result (λ s. HouseOpensFirst (told s).said) }
     ensures comments_aside { IfOk result (λ s. CommentsAside text.now (told s)) }
 {
-    let mut statements = Vec::new(heap);
-    for (i, line) in text.split('\n').enumerate() {
-        let number = i + 1;
-        let begun = !statements.is_empty();
-        match read_line(heap, line, begun)? {
-            Reading::Nothing => {}
-            Reading::Says(statement) => statements.push(Numbered {
-                line: number,
-                statement,
-            })?,
-            Reading::Unreadable(cause) => {
-                let fault = Some(Fault {
-                    line: number,
-                    cause,
-                });
-                return Ok(Script { statements, fault });
-            }
-        }
-    }
-    Ok(Script {
-        statements,
-        fault: None,
-    })
+    scripting::read_script::<AllStatements>(heap, text)
 }

@@ -15,9 +15,7 @@ pub fn summary(heap: Global, text: &str) -> Result<String, AllocError> {
         said.push_str(format!(in heap; "{line} {statement}\n")?.as_str())?;
     }
     if let Some(fault) = script.fault {
-        let line = fault.line;
-        let cause = fault.cause;
-        said.push_str(format!(in heap; "{line}: {cause}")?.as_str())?;
+        said.push_str(format!(in heap; "{fault}")?.as_str())?;
     }
     Ok(said)
 }

@@ -1,24 +1,15 @@
 -- The code's values as the forms speak of them: a text is its bytes. Assumes nothing.
-use Rattle.std.specs.Prelude.{◌≡◌, ℕ, List, map, Ok, Err, vec_items, string_bytes, Result, Vec, String}
+use Rattle.std.specs.Prelude.{ℕ, List, map, vec_items, string_bytes, Vec, String}
 use Rattle.std.specs.declared.alloc.Global.{Global}
 use Rattle.lines.specs.declared.Line.{Line}
 use Rattle.parts.specs.Limits.{LineView, WishView}
 use Rattle.lines.specs.Views.{line_view}
-use Rattle.texts.specs.declared.Cause.{Cause}
-use Rattle.statements.specs.declared.Trouble.{Trouble}
-use Rattle.statements.specs.declared.Trouble.TheVariants.{Unreadable, NoMemory}
 use Rattle.statements.specs.declared.Gift.{Gift}
 use Rattle.statements.specs.declared.Gift.TheVariants as gift
 use Rattle.statements.specs.declared.asked.Asked.{Asked}
 use Rattle.statements.specs.declared.Statement.{Statement}
 use Rattle.statements.specs.declared.Statement.TheVariants.{House, Key, Ticket, Yes, Add, Tie, Give, Wish, Show}
 use Rattle.statements.specs.Said.{Gifted, a_thing, a_key, Said, house_of, key_to, ticket_to, yes_by, add_by, tie_by, given, wish_of, shown}
-
--- what was read is what s says, if there was memory
-abbrev pub Told : {X Y : Type 0} → (X → Y) → Result X Trouble → Result Y Cause → Type 0
-Told view (Ok x) s = Ok (view x) ≡ s
-Told view (Err (Unreadable c)) s = Err c ≡ s
-Told view (Err NoMemory) s = Unit {0}
 
 -- lines as they are
 abbrev pub lines_view : Vec Line Global → List LineView

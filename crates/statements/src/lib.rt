@@ -2,13 +2,12 @@
 #![tactic(auto)]
 
 ghost use Rattle.std.specs.Prelude.{◌≡◌, IfOk, string_bytes};
-ghost use Rattle.statements.specs.declared.Trouble.TheVariants.{Unreadable, NoMemory};
 
 mod asked;
 
 pub use asked::{Asked, asked_in};
 use lines::{KeyNumber, Line};
-use std::alloc::{AllocError, AllocFailed, Global};
+use std::alloc::{AllocError, Global};
 use texts::Cause;
 
 /// One thing that a script asks for, on a line of its own.
@@ -77,35 +76,7 @@ pub enum Gift {
 }
 
 /// Why a statement, or a part of one, could not be read.
-#[derive(Clone, Copy)]
-pub enum Trouble {
-    Unreadable(Cause),
-    NoMemory,
-}
-
-impl From<Cause> for Trouble {
-    ghost from_gives = { λ c t. t ≡ Unreadable c };
-
-    fn from(cause: Cause) -> Trouble {
-        Trouble::Unreadable(cause)
-    }
-}
-
-impl From<AllocError> for Trouble {
-    ghost from_gives = { λ _ t. t ≡ NoMemory };
-
-    fn from(_error: AllocError) -> Trouble {
-        Trouble::NoMemory
-    }
-}
-
-impl<T: Drop> From<AllocFailed<T>> for Trouble {
-    ghost from_gives = { λ _ t. t ≡ NoMemory };
-
-    fn from(_refused: AllocFailed<T>) -> Trouble {
-        Trouble::NoMemory
-    }
-}
+pub type Trouble = texts::Trouble<Cause>;
 
 /// Two words, as strings of their own.
 pub fn owned_pair(heap: Global, first: &str, second: &str) -> Result<(String, String), AllocError>

@@ -3,9 +3,9 @@ use Rattle.std.proofs.Common.{◌≡◌, ℕ, ◌<◌, Bool, true, false, cond, 
 use lib.Utf8.{scalar}
 use Rattle.std.specs.declared.str.Split.{Split}
 use Rattle.std.specs.Char.{char_set_contains}
-use Rattle.std.specs.Str.Pattern.{FindsBy, FindsChar, FindsPrefixBy, HasPassingCharAt, IsSplitAtFirstMatch, CutsPrefixes, IsTrimStartMatches, IsFullyTrimmed}
+use Rattle.std.specs.Str.Pattern.{FindsBy, FindsChar, FindsPrefixBy, HasPassingCharAt, IsSplitAtFirstMatch, CutsPrefixes, IsTrimStartMatches, IsFullyTrimmed, SplitsAroundMatch}
 use Rattle.std.specs.Str.Iter.{split_text, split_has_more, split_pattern, split_steps}
-use Rattle.std.specs.Option.{option_map}
+use Rattle.std.specs.Option.{option_map, unwrap_or}
 use Rattle.std.specs.Str.{NoCharPasses}
 use Rattle.std.specs.List.{AllByRecursion}
 use Rattle.std.proofs.ByRecursion.{All-from_get_or}
@@ -167,11 +167,11 @@ module _ (s r : List ℕ) (trimmed : IsTrimStartMatches Begins s r) where
   unfolding words_of
   no_words e = same ∙ ap words_of (nil_from_length r e)
 
-  pub last_word : 0 < length r → Finds r None → words_of s ≡ r ∷ words_of []
+  last_word : 0 < length r → Finds r None → words_of s ≡ r ∷ words_of []
   unfolding words_of
   last_word some f = same ∙ one_word r (free gap gap_ascii r (f gap (λ c. refl))) (λ e. omega (arith, ap length e))
 
-  pub first_word : (i j : ℕ) (x y : List ℕ) → Finds r (Some (i, j)) → x ≡ take i r → y ≡ drop j r → words_of s ≡ x ∷ words_of y
+  first_word : (i j : ℕ) (x y : List ℕ) → Finds r (Some (i, j)) → x ≡ take i r → y ≡ drop j r → words_of s ≡ x ∷ words_of y
   unfolding words_of
   first_word i j x y f e g =
       let found = f gap (λ c. refl) in
@@ -181,3 +181,10 @@ module _ (s r : List ℕ) (trimmed : IsTrimStartMatches Begins s r) where
       found.1.1
       in
       same ∙ ap full (cut_at gap gap_ascii r i j found) ∙ full_some (take i r) _ starts ∙ rw (e, g)
+
+  -- what the code makes of the first gap, or of none
+  pub next_is : 0 < length r → (o : Option (Bor (List ℕ) × Bor (List ℕ))) (d : Bor (List ℕ) × Bor (List ℕ)) → d.0.now ≡ r → d.1.now ≡ []
+      → MatchOption o (Finds r None) (λ p. SplitsAroundMatch Finds r p.0.now p.1.now)
+      → words_of s ≡ (unwrap_or o d).0.now ∷ words_of (unwrap_or o d).1.now
+  next_is some None d e g f = rw (e, g) (last_word some f)
+  next_is some (Some p) d e g f = first_word f.0 f.1 p.0.now p.1.now f.2 f.3 f.4

@@ -1,18 +1,19 @@
 -- Numbers in decimal, with zeros in front or none. Assumes nothing.
-use Rattle.std.proofs.Common.{◌≡◌, ℕ, zero, suc, ◌+◌, ◌^◌, ◌<◌, ◌≤◌, Bool, true, false, cond, not, ◌&&◌, eqb, leb, List, [], ◌∷◌, ◌++◌, length, get_or, drop, replicate, Ok, Err, decimal, sym, refl, ap, ◌∙◌, subst, ⊎_elim, arith, length-append}
+use Rattle.std.proofs.Common.{◌≡◌, ℕ, zero, suc, ◌+◌, ◌^◌, ◌<◌, ◌≤◌, Bool, true, false, cond, ◌&&◌, eqb, leb, List, [], ◌∷◌, ◌++◌, length, get_or, replicate, Ok, Err, Result, decimal, sym, refl, ap, ◌∙◌, subst, ⊎_elim, arith, length-append}
 use Rattle.std.specs.Str.Parse.{digits_value, ParsesUnsigned}
 use Rattle.std.specs.Int.{IsInRange}
+use Rattle.std.specs.Result.{OkIff, result_map_both}
 use Rattle.std.specs.Char.{is_ascii_digit}
+use Rattle.std.specs.List.{list_all}
 use Rattle.std.specs.Str.{all_ascii_digits}
 use Rattle.std.proofs.lemmas.Fmt.{digits_decimal, digits_value-decimal, decimal_nonempty, decimal-digits_value}
 use Rattle.std.proofs.ByRecursion.{All-from_get_or}
-use Rattle.std.proofs.lemmas.List.{at_drop_more, at_drop_all}
 use Rattle.std.proofs.lemmas.Str.Parse.{IsNumeralModel, numerals_by_value, tells_all_ascii_digits, parse_digits, digit_at}
-use Rattle.std.proofs.lemmas.Bool.{and_parts, and_from, and_left, cond-true, cond-false, le-leb, lt-leb, leb-true, leb-false, lt-ltb, ltb-true, cases_eq, cases_lt}
+use Rattle.std.proofs.lemmas.Bool.{and_parts, and_from, cond-true, cond-false, le-leb, lt-leb, leb-true, leb-false, lt-ltb, ltb-true, cases_eq, cases_lt}
 use Rattle.std.proofs.lemmas.Bool.Decides.{nat_tests}
 use Rattle.texts.specs.declared.Cause.{Cause}
 use Rattle.texts.specs.declared.Cause.TheVariants.{NotANumber, TooLarge}
-use Rattle.texts.specs.Numerals.{Writes, is_numeral, number_of}
+use Rattle.texts.specs.Numerals.{Writes, is_numeral, number_in, number_of, Holds}
 use Rattle.texts.specs.Results.{and_then}
 use Rattle.texts.proofs.Cuts.{Free}
 use Rattle.texts.proofs.Steps.{cond_ok}
@@ -20,27 +21,13 @@ use Rattle.texts.proofs.Steps.{cond_ok}
 pub own : IsNumeralModel (λ ds. all_ascii_digits ds ≡ true) (digits_value 10)
 own = numerals_by_value _ tells_all_ascii_digits
 
--- ---- the digits of a word, one by one
+digits_listed : (w : List ℕ) → list_all is_ascii_digit w ≡ all_ascii_digits w
+digits_listed [] = refl
+digits_listed (b ∷ w) = ap (λ r. is_ascii_digit b && r) (digits_listed w)
 
-pub digits_step : (bs : List ℕ) (i : ℕ) → i < length bs → all_ascii_digits (drop i bs) ≡ (is_ascii_digit (get_or bs i 0) && all_ascii_digits (drop (i + 1) bs))
-digits_step bs i h = at_drop_more all_ascii_digits bs i 0 h
-
-pub digits_end : (bs : List ℕ) (i : ℕ) → length bs ≤ i → all_ascii_digits (drop i bs) ≡ true
-digits_end bs i h = at_drop_all all_ascii_digits bs i h
-
-module _ (w bs : List ℕ) (same : bs ≡ w) (i : ℕ) (inv : all_ascii_digits (drop i bs) ≡ all_ascii_digits bs) where
-  pub digit_not : i < length bs → false ≡ is_ascii_digit (get_or bs i 0) → false ≡ is_numeral w
-  digit_not l d =
-      let none : all_ascii_digits w ≡ false = ap all_ascii_digits (sym same) ∙ sym inv ∙ digits_step bs i l ∙ and_left _ _ (sym d) in sym (and_left (all_ascii_digits w) _ none)
-
-  pub digit_more : i < length bs → true ≡ is_ascii_digit (get_or bs i 0) → all_ascii_digits (drop (i + 1) bs) ≡ all_ascii_digits bs
-  digit_more l d = sym (rw (sym d) at (digits_step bs i l)) ∙ inv
-
-  pub digits_all : length bs ≤ i → (r : Bool) → r ≡ eqb (length bs) 0 → not r ≡ is_numeral w
-  digits_all l r e =
-      let every : all_ascii_digits w ≡ true = ap all_ascii_digits (sym same) ∙ sym inv ∙ digits_end bs i l in
-      let long : length bs ≡ length w = ap length same in
-      rw (every, e, long) (grind (arith, nat_tests))
+-- what `all` says of a word that is not empty
+pub all_is : (w : List ℕ) (r : Bool) → r ≡ list_all is_ascii_digit w → false ≡ eqb (length w) 0 → r ≡ is_numeral w
+all_is w r e some = e ∙ digits_listed w ∙ grind (arith, nat_tests)
 
 -- digits have no byte of another sort
 pub digits_free : (t : ℕ → Bool) → ((b : ℕ) → IsInRange 48 57 b → t b ≡ false) → (w : List ℕ) → all_ascii_digits w ≡ true → Free t w
@@ -48,51 +35,45 @@ digits_free t out w h = All-from_get_or (λ b. t b ≡ false) w 0 (λ k l. out (
 
 -- ---- what `parse` answers
 
-module _ (w : List ℕ) where
-  pub number_none : (most : ℕ) → is_numeral w ≡ false → Err NotANumber ≡ number_of most w
-  unfolding number_of
-  number_none most e = sym (cond-false (is_numeral w) _ _ e)
+module _ {N : Type 0} (value : ℕ → N) (most : ℕ) (w : List ℕ) where
+  pub number_none : is_numeral w ≡ false → Err NotANumber ≡ number_in most value w
+  unfolding number_in
+  number_none e = sym (cond-false (is_numeral w) _ _ e)
 
-  inner : (most : ℕ) → is_numeral w ≡ true → number_of most w ≡ cond (leb (digits_value 10 w) most) (Ok (digits_value 10 w)) (Err TooLarge)
-  unfolding number_of
-  inner most e = cond-true (is_numeral w) _ _ e
+  inner : is_numeral w ≡ true → number_in most value w ≡ cond (leb (digits_value 10 w) most) (Ok (value (digits_value 10 w))) (Err TooLarge)
+  unfolding number_in
+  inner e = cond-true (is_numeral w) _ _ e
 
-  module _ (e : is_numeral w ≡ true) where
-    pub number_read : (n : ℕ) → ParsesUnsigned {E = ℕ} 32 10 w (Ok n) → Ok n ≡ number_of 4294967295 w
-    number_read n h =
-        let p = parse_digits own {E = ℕ} 32 w (Ok n) h (and_parts (all_ascii_digits w) _ e).0 in
-        ap Ok p.1 ∙ sym (inner 4294967295 e ∙ cond-true (leb (digits_value 10 w) 4294967295) _ _ (le-leb _ _ (omega (arith, p.0.1))))
+pub parsed : {E : Type 0} (w : List ℕ) → is_numeral w ≡ true → (r : Result ℕ E) → ParsesUnsigned 32 10 w r → result_map_both (λ n. n) (λ d. TooLarge) r ≡ number_of 4294967295 w
+parsed {E = E} w e (Ok n) h =
+    let p = parse_digits own {E = E} 32 w (Ok n) h (and_parts (all_ascii_digits w) _ e).0 in
+    ap Ok p.1 ∙ sym (inner (λ n. n) 4294967295 w e ∙ cond-true (leb (digits_value 10 w) 4294967295) _ _ (le-leb _ _ (omega (arith, p.0.1))))
+parsed {E = E} w e (Err d) h =
+    let some : 0 < length w = ltb-true 0 (length w) (and_parts (all_ascii_digits w) _ e).1 in
+    let out = parse_digits own {E = E} 32 w (Err d) h (and_parts (all_ascii_digits w) _ e).0 in
+    sym (inner (λ n. n) 4294967295 w e ∙ cond-false (leb (digits_value 10 w) 4294967295) _ _ (lt-leb _ _ (⊎_elim (λ l. absurd (out (some, omega arith))) (λ l. omega arith) (cases_lt (digits_value 10 w) 4294967296))))
 
-    pub number_large : ParsesUnsigned {E = ℕ} 32 10 w (Err 0) → Err TooLarge ≡ number_of 4294967295 w
-    number_large h =
-        let some : 0 < length w = ltb-true 0 (length w) (and_parts (all_ascii_digits w) _ e).1 in
-        let out = parse_digits own {E = ℕ} 32 w (Err 0) h (and_parts (all_ascii_digits w) _ e).0 in
-        sym (inner 4294967295 e ∙ cond-false (leb (digits_value 10 w) 4294967295) _ _ (lt-leb _ _ (⊎_elim (λ l. absurd (out (some, omega arith))) (λ l. omega arith) (cases_lt (digits_value 10 w) 4294967296))))
+-- a number of fewer bits is a number that is small
+module _ {N E : Type 0} {value : ℕ → N} {most : ℕ} {gives : ℕ → Result N E → Type 0} (holds : Holds gives most value) (w : List ℕ) where
+  narrowed : number_in most value w ≡ and_then (number_of 4294967295 w) (λ n. cond (leb n most) (Ok (value n)) (Err TooLarge))
+  unfolding number_in
+  narrowed = by (is_numeral w) (leb (digits_value 10 w) 4294967295) refl
+    where
+      by : (a b : Bool) → leb (digits_value 10 w) 4294967295 ≡ b
+          → cond a (cond (leb (digits_value 10 w) most) (Ok (value (digits_value 10 w))) (Err TooLarge)) (Err NotANumber) ≡ and_then (cond a (cond b (Ok (digits_value 10 w)) (Err TooLarge)) (Err NotANumber)) (λ n. cond (leb n most) (Ok (value n)) (Err TooLarge))
+      by false b e = refl
+      by true true e = refl
+      by true false e = cond-false (leb (digits_value 10 w) most) _ _ (lt-leb _ _ (omega (arith, holds.wide, leb-false (digits_value 10 w) 4294967295 e)))
 
-  -- a number of fewer bits is a number that is small
-  module _ (low high : ℕ) (less : low ≤ high) where
-    pub narrowed : number_of low w ≡ and_then (number_of high w) (λ n. cond (leb n low) (Ok n) (Err TooLarge))
-    unfolding number_of
-    narrowed = by (is_numeral w) (leb (digits_value 10 w) high) refl
-      where
-        by : (a b : Bool) → leb (digits_value 10 w) high ≡ b
-            → cond a (cond (leb (digits_value 10 w) low) (Ok (digits_value 10 w)) (Err TooLarge)) (Err NotANumber) ≡ and_then (cond a (cond b (Ok (digits_value 10 w)) (Err TooLarge)) (Err NotANumber)) (λ n. cond (leb n low) (Ok n) (Err TooLarge))
-        by false b e = refl
-        by true true e = refl
-        by true false e = cond-false (leb (digits_value 10 w) low) _ _ (lt-leb _ _ (omega (arith, leb-false (digits_value 10 w) high e)))
+  pub not_wide : (c : Cause) → Err c ≡ number_of 4294967295 w → Err c ≡ number_in most value w
+  not_wide c e = sym (narrowed ∙ ap (λ r. and_then r (λ n. cond (leb n most) (Ok (value n)) (Err TooLarge))) (sym e))
 
-    pub small_exit : (c : Cause) → Err c ≡ number_of high w → Err c ≡ number_of low w
-    small_exit c e = sym (narrowed ∙ ap (λ r. and_then r (λ n. cond (leb n low) (Ok n) (Err TooLarge))) (sym e))
-
-    module _ (n : ℕ) (e : Ok n ≡ number_of high w) where
-      small_is : number_of low w ≡ cond (leb n low) (Ok n) (Err TooLarge)
-      small_is = narrowed ∙ ap (λ r. and_then r (λ n. cond (leb n low) (Ok n) (Err TooLarge))) (sym e)
-
-      pub small_read : (m : ℕ) → n < low + 1 → m ≡ n → Ok m ≡ number_of low w
-      small_read m l i = sym (small_is ∙ cond-true (leb n low) _ _ (le-leb n low (omega arith)) ∙ ap Ok (sym i))
-
-      pub small_large : (n < low + 1 → ⊥) → Err TooLarge ≡ number_of low w
-      small_large h = sym (small_is ∙ cond-false (leb n low) _ _ (lt-leb n low (⊎_elim (λ l. absurd (h l)) (λ l. omega arith) (cases_lt n (low + 1)))))
+  pub converted : (n : ℕ) → Ok n ≡ number_of 4294967295 w → (r : Result N E) → gives n r → result_map_both (λ x. x) (λ d. TooLarge) r ≡ number_in most value w
+  converted n e r g = by r (holds.each n r g) ∙ sym (narrowed ∙ ap (λ r. and_then r (λ n. cond (leb n most) (Ok (value n)) (Err TooLarge))) (sym e))
+    where
+      by : (r : Result N E) → OkIff r (n < most + 1) (value n) → result_map_both (λ x. x) (λ d. TooLarge) r ≡ cond (leb n most) (Ok (value n)) (Err TooLarge)
+      by (Ok x) h = ap Ok h.1 ∙ sym (cond-true (leb n most) _ _ (le-leb n most (omega arith)))
+      by (Err d) h = sym (cond-false (leb n most) _ _ (lt-leb n most (⊎_elim (λ l. absurd (h l)) (λ l. omega arith) (cases_lt n (most + 1)))))
 
 -- ---- zeros in front count for nothing
 
@@ -114,7 +95,7 @@ module _ (w : List ℕ) (n : ℕ) (small : n < 2 ^ 64) (h : Writes w n) where
   pub number_takes : (most : ℕ) → n ≤ most → number_of most w ≡ Ok n
   number_takes most le =
       let is : digits_value 10 w ≡ n = ap (digits_value 10) h.1 ∙ zeros_value h.0 (decimal n) ∙ digits_value-decimal own n small in
-      inner w most (and_from (all_ascii_digits w) _ writes_digits (lt-ltb 0 (length w) writes_some)) ∙ cond-true (leb (digits_value 10 w) most) _ _ (le-leb _ _ (omega arith)) ∙ ap Ok is
+      inner (λ n. n) most w (and_from (all_ascii_digits w) _ writes_digits (lt-ltb 0 (length w) writes_some)) ∙ cond-true (leb (digits_value 10 w) most) _ _ (le-leb _ _ (omega arith)) ∙ ap Ok is
 
 -- digits are what is printed of their number, after some zeros
 zero_front : (b : ℕ) (w : List ℕ) → b ≡ 48 → Writes w (digits_value 10 w) → Writes (b ∷ w) (digits_value 10 (b ∷ w))
@@ -130,7 +111,7 @@ stripped (b ∷ d ∷ w) h some small =
     (cases_eq b 48)
 
 pub number_told : (most : ℕ) (w : List ℕ) (n : ℕ) → most < 2 ^ 64 → number_of most w ≡ Ok n → Writes w n × (n ≤ most)
-unfolding number_of
+unfolding number_in
 number_told most w n small e =
     let p = cond_ok (is_numeral w) _ NotANumber n e in
     let q = cond_ok (leb (digits_value 10 w) most) (Ok (digits_value 10 w)) TooLarge n p.1 in

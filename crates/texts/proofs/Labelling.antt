@@ -1,12 +1,12 @@
 -- Words that are told by the word before them, as the code reads them. Assumes nothing.
-use Rattle.std.proofs.Common.{◌≡◌, ℕ, true, false, cond, not, List, [], ◌∷◌, Ok, Err, sym, ap, ◌∙◌}
+use Rattle.std.proofs.Common.{◌≡◌, ℕ, true, false, cond, not, List, Ok, Err, sym, ap, ◌∙◌}
 use Rattle.std.specs.Str.{bytes_eq}
 use Rattle.std.proofs.lemmas.Slice.Eq.{bytes_eq-Decides}
 use Rattle.std.specs.Cmp.Lexicographic.{same_text, other_text}
 use Rattle.std.proofs.lemmas.Bool.{false_from_ne_true, not-true, not-false, cond-true, cond-false}
 use Rattle.texts.specs.declared.Cause.{Cause}
-use Rattle.texts.specs.declared.Cause.TheVariants.{UnknownWord, MissingWord}
-use Rattle.texts.specs.Labels.{next, labelled, no_more, only_after}
+use Rattle.texts.specs.declared.Cause.TheVariants.{UnknownWord}
+use Rattle.texts.specs.Labels.{next, labelled}
 use Rattle.texts.specs.Results.{and_then}
 
 pub differs : (w text : List ℕ) → (w ≡ text → ⊥) → bytes_eq w text ≡ false
@@ -21,25 +21,17 @@ module _ (xs ys : List ℕ) where
   alike h = same_text xs ys (sym (not-false (bytes_eq xs ys) (sym h)))
 
 module _ (label : List ℕ) (ws : List (List ℕ)) where
-  pub no_label : ws ≡ [] → Err MissingWord ≡ labelled label ws
+  pub no_label : (c : Cause) → Err c ≡ next ws → Err c ≡ labelled label ws
   unfolding labelled
-  no_label e = ap (labelled label) (sym e)
+  no_label c e = ap (λ r. and_then r (λ p. cond (bytes_eq p.0 label) (next p.1) (Err UnknownWord))) e
 
-  module _ (w : List ℕ) (us : List (List ℕ)) (e : ws ≡ w ∷ us) where
+  module _ (w : List ℕ) (us : List (List ℕ)) (e : Ok (w, us) ≡ next ws) where
     label_is : labelled label ws ≡ cond (bytes_eq w label) (next us) (Err UnknownWord)
     unfolding labelled
-    label_is = ap (labelled label) e
+    label_is = ap (λ r. and_then r (λ p. cond (bytes_eq p.0 label) (next p.1) (Err UnknownWord))) (sym e)
 
     pub wrong_label : (w ≡ label → ⊥) → Err UnknownWord ≡ labelled label ws
     wrong_label h = sym (label_is ∙ cond-false (bytes_eq w label) _ _ (differs w label h))
 
     pub right_label : w ≡ label → next us ≡ labelled label ws
     right_label h = sym (label_is ∙ cond-true (bytes_eq w label) _ _ ((bytes_eq-Decides w label).1 h))
-
-  pub no_only : (c : Cause) → Err c ≡ labelled label ws → Err c ≡ only_after label ws
-  unfolding only_after
-  no_only c e = ap (λ r. and_then r (λ p. no_more p.0 p.1)) e
-
-  pub only_is : (w : List ℕ) (us vs : List (List ℕ)) → Ok (w, us) ≡ labelled label ws → us ≡ vs → no_more w vs ≡ only_after label ws
-  unfolding only_after
-  only_is w us vs e f = ap (no_more w) (sym f) ∙ ap (λ r. and_then r (λ p. no_more p.0 p.1)) e

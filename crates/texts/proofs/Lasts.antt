@@ -1,14 +1,16 @@
 -- The last word of a text, as the code cuts it off. Assumes nothing.
-use Rattle.std.proofs.Common.{◌≡◌, ℕ, ◌-◌, ◌<◌, Bool, true, false, ◌⊎◌, List, [], ◌∷◌, ◌++◌, length, take, drop, IfSome, Some, None, Option, sym, refl, ap, ◌∙◌, inl, inr, ⊎_elim, arith}
+use Rattle.std.proofs.Common.{◌≡◌, ℕ, ◌-◌, ◌<◌, Bool, true, false, ◌⊎◌, List, [], ◌∷◌, ◌++◌, length, take, drop, IfSome, Some, None, Option, MatchOption, Bor, sym, refl, ap, ◌∙◌, inl, inr, ⊎_elim, arith}
 use lib.Utf8.{scalar}
 use Rattle.std.specs.Char.{char_set_contains}
-use Rattle.std.specs.Str.Pattern.{RFindsBy, FindsSuffixBy, HasPassingCharAt, CutsSuffixes, IsTrimEndMatches, IsFullyTrimmed}
+use Rattle.std.specs.Option.{unwrap_or}
+use Rattle.std.specs.Str.Pattern.{RFindsBy, FindsSuffixBy, HasPassingCharAt, CutsSuffixes, IsTrimEndMatches, IsFullyTrimmed, SplitsAroundMatch}
 use Rattle.std.proofs.lemmas.List.{take-append-drop, nil_from_length}
 use Rattle.std.proofs.lemmas.Str.Pattern.{drop_at_char}
 use Rattle.std.proofs.lemmas.Bool.{cases_Bool, cond-true, cond-false}
 use Rattle.std.proofs.lemmas.Str.{len_utf8_bounds, encode_ascii}
 use Rattle.std.proofs.lemmas.Bool.Decides.{nat_tests}
 use Rattle.texts.specs.Cuts.{gap, or_here, at_last, closing, trimmed, after_gap, last_of, last_word}
+use Rattle.texts.specs.Results.{both_parts}
 use Rattle.texts.proofs.Cuts.{Free, free, gap_ascii}
 
 -- what `trim_end_matches` and `rsplit_once` say where they look for gaps
@@ -96,10 +98,10 @@ module _ (s r : List ℕ) (peeled : IsTrimEndMatches Closes s r) where
   pub no_last : length r ≡ 0 → None ≡ last_word s
   no_last e = sym (same ∙ ap last_of (nil_from_length r e))
 
-  pub only_last : 0 < length r → FindsLast r None → Some ([], r) ≡ last_word s
+  only_last : 0 < length r → FindsLast r None → Some ([], r) ≡ last_word s
   only_last some f = sym (same ∙ last_some r some ∙ ap (λ o. Some (after_gap r o)) (last_none r (free gap gap_ascii r (f gap (λ c. refl)))))
 
-  pub last_found : 0 < length r → (i j : ℕ) (x y : List ℕ) → FindsLast r (Some (i, j)) → x ≡ take i r → y ≡ drop j r → Some (x, y) ≡ last_word s
+  last_found : 0 < length r → (i j : ℕ) (x y : List ℕ) → FindsLast r (Some (i, j)) → x ≡ take i r → y ≡ drop j r → Some (x, y) ≡ last_word s
   last_found some i j x y f e g =
       let found = f gap (λ c. refl) in
       let c : ℕ = found.1.0 in
@@ -107,3 +109,10 @@ module _ (s r : List ℕ) (peeled : IsTrimEndMatches Closes s r) where
       let whole : r ≡ take i r ++ c ∷ drop j r = sym (take-append-drop i r) ∙ ap (λ l. take i r ++ l) cut in
       let at : at_last gap r ≡ Some (take i r, drop j r) = ap (at_last gap) whole ∙ last_takes (take i r) c (drop j r) found.1.1 (free gap gap_ascii (drop j r) found.0) in
       sym (same ∙ last_some r some ∙ ap (λ o. Some (after_gap r o)) at ∙ rw (e, g))
+
+  -- what the code makes of the last gap, or of none
+  pub last_is : 0 < length r → (o : Option (Bor (List ℕ) × Bor (List ℕ))) (d : Bor (List ℕ) × Bor (List ℕ)) → d.0.now ≡ [] → d.1.now ≡ r
+      → MatchOption o (FindsLast r None) (λ p. SplitsAroundMatch FindsLast r p.0.now p.1.now)
+      → Some (both_parts (unwrap_or o d)) ≡ last_word s
+  last_is some None d e g f = (λ k. Some (e k, g k)) ∙ only_last some f
+  last_is some (Some p) d e g f = last_found some f.0 f.1 p.0.now p.1.now f.2 f.3 f.4

@@ -3,3 +3,4 @@ pub mod Lasts
 pub mod Steps
 pub mod Digits
 pub mod Labelling
+pub mod Chains

@@ -1,7 +1,11 @@
 -- One step of reading after another. Assumes nothing.
-use Rattle.std.proofs.Common.{◌≡◌, ℕ, Bool, true, false, cond, ◌⊎◌, List, [], ◌∷◌, IsErrAnd, Ok, Err, Result, refl, ap, ◌∙◌, inl, inr, arith}
+use Rattle.std.proofs.Common.{◌≡◌, ℕ, Bool, true, false, cond, ◌⊎◌, List, [], ◌∷◌, IsErrAnd, MatchResult, MatchOption, Some, None, Ok, Err, Option, Result, refl, sym, ap, ◌∙◌, inl, inr, arith}
+use Rattle.std.specs.Option.{option_map, ok_or}
+use Rattle.std.specs.Result.{result_map_both}
+use Rattle.std.proofs.lemmas.Result.{err_from_is_err_and}
 use Rattle.texts.specs.declared.Cause.{Cause}
 use Rattle.texts.specs.Cuts.{one_word, maybe_word}
+use Rattle.texts.specs.Labels.{next}
 use Rattle.texts.specs.Results.{and_then, and_is}
 
 pub err_ok : {X : Type 0} (c : Cause) (x : X) → Err c ≡ Ok x → ⊥
@@ -34,6 +38,21 @@ module _ {X Y : Type 0} {r : Result X Cause} where
   pub last_no : (f : X → Y) {c : Cause} → Err c ≡ r → Err c ≡ and_is r f
   last_no f e = ap (λ q. and_is q f) e
 
+-- what there is, or else the cause c
+module _ {X Y : Type 0} (f : X → Y) (c : Cause) where
+  pub or_is : (o : Option X) (r : Result X Cause) → r ≡ ok_or o c → and_is r f ≡ ok_or (option_map f o) c
+  or_is None r e = ap (λ q. and_is q f) e
+  or_is (Some x) r e = ap (λ q. and_is q f) e
+
+  pub or_told : (o : Option X) (r : Result X Cause) → r ≡ ok_or o c → {s : Result Y Cause} → MatchOption o (Err c ≡ s) (λ x. Ok (f x) ≡ s) → and_is r f ≡ s
+  or_told None r e m = ap (λ q. and_is q f) e ∙ m
+  or_told (Some x) r e m = ap (λ q. and_is q f) e ∙ m
+
+-- q is r with each error told as the cause c
+pub told_as : {X E : Type 0} {P : E → Cause → Type 0} (c : Cause) (r : Result X E) (q : Result X Cause) → MatchResult r (λ x. q ≡ Ok x) (λ d. IsErrAnd q (P d)) → ((d : E) (e : Cause) → P d e → e ≡ c) → q ≡ result_map_both (λ x. x) (λ d. c) r
+told_as c (Ok x) q m is = m
+told_as c (Err d) q m is = let p = err_from_is_err_and q m in p.1 ∙ ap Err (is d p.0 p.2)
+
 -- what the exit of a `?` returns
 pub exits : {X Y : Type 0} (r : Result X Cause) (f : X → Y) (c : Cause) → IsErrAnd r (λ d. d ≡ c) → and_is r f ≡ Err c
 exits (Ok x) f c h = absurd h
@@ -52,3 +71,7 @@ pub maybe_told : (ws : List (List ℕ)) (w : List ℕ) → maybe_word ws ≡ Ok 
 maybe_told [] w e = inl (refl, cc)
 maybe_told (v ∷ []) w e = inr (cc)
 maybe_told (v ∷ u ∷ ws) w e = absurd (err_ok _ _ e)
+
+pub next_told : {w : List ℕ} {us : List (List ℕ)} (ws : List (List ℕ)) → Ok (w, us) ≡ next ws → ws ≡ w ∷ us
+next_told [] e = absurd (err_ok _ _ (sym e))
+next_told {w = w} {us = us} (v ∷ vs) e = let p : List ℕ × List (List ℕ) = (v, vs) in let q : List ℕ × List (List ℕ) = (w, us) in let same : p ≡ q = cc in ap (λ r. r.0 ∷ r.1) same

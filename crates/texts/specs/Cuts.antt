@@ -1,7 +1,7 @@
 -- The parts and the words of a text, over its bytes. Assumes nothing.
 use Rattle.std.specs.Prelude.{ℕ, Bool, cond, List, [], ◌∷◌, Some, None, Ok, Err, Option, Result, ◌==◌}
 use Rattle.std.specs.Char.{char_set_contains}
-use Rattle.std.specs.Option.{option_map}
+use Rattle.std.specs.Option.{option_map, ok_or}
 use Rattle.texts.specs.declared.Cause.{Cause}
 use Rattle.texts.specs.declared.Cause.TheVariants.{MissingWord, TooManyWords}
 
@@ -50,14 +50,9 @@ colon b = b == 58
 abbrev pub gap : ℕ → Bool
 gap b = char_set_contains (32 ∷ 9 ∷ 13 ∷ []) b
 
--- what there is, or else this cause
-abbrev pub or_else : {X : Type 0} → Cause → Option X → Result X Cause
-or_else c None = Err c
-or_else c (Some x) = Ok x
-
 -- head and tail: what stands before the first colon, and after it
 unfoldable pub head_tail : List ℕ → Result (List ℕ × List ℕ) Cause
-head_tail text = or_else MissingWord (at_first colon text)
+head_tail text = ok_or (at_first colon text) MissingWord
 
 -- ---- words
 

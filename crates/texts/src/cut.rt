@@ -2,7 +2,8 @@
 ghost use Rattle.std.specs.Prelude.{◌≡◌, [], ◌∷◌, MatchOption};
 ghost use Rattle.std.specs.Option.{option_map};
 ghost use Rattle.texts.specs.Cuts.{words_of, one_word, maybe_word, last_word, head_tail};
-ghost use Rattle.texts.specs.Results.{word_read, both_parts, cut_read};
+ghost use Rattle.texts.specs.Labels.{next, no_more};
+ghost use Rattle.texts.specs.Results.{word_read, pair_read, both_parts, cut_read};
 
 use crate::Cause;
 
@@ -16,10 +17,14 @@ pub fn next_word(text: &str) -> Option<(&str, &str)>
     if trimmed.is_empty() {
         return None;
     }
-    match trimmed.split_once(GAPS) {
-        Some(parts) => Some(parts),
-        None => Some((trimmed, "")),
-    }
+    Some(trimmed.split_once(GAPS).unwrap_or((trimmed, "")))
+}
+
+/// The same, where there has to be a word.
+pub fn word_and_rest(text: &str) -> Result<(&str, &str), Cause>
+    ensures { pair_read result ≡ next (words_of text.now) }
+{
+    next_word(text).ok_or(Cause::MissingWord)
 }
 
 /// What stands before the last word, and that word.
@@ -30,9 +35,16 @@ pub fn last_word(text: &str) -> Option<(&str, &str)>
     if trimmed.is_empty() {
         return None;
     }
-    match trimmed.rsplit_once(GAPS) {
-        Some(parts) => Some(parts),
-        None => Some(("", trimmed)),
+    Some(trimmed.rsplit_once(GAPS).unwrap_or(("", trimmed)))
+}
+
+// The word, where no other follows it.
+pub(crate) fn last_of<'a>(word: &'a str, rest: &str) -> Result<&'a str, Cause>
+    ensures { word_read result ≡ no_more word.now (words_of rest.now) }
+{
+    match next_word(rest) {
+        None => Ok(word),
+        Some(_) => Err(Cause::TooManyWords),
     }
 }
 
@@ -40,13 +52,8 @@ pub fn last_word(text: &str) -> Option<(&str, &str)>
 pub fn only_word(text: &str) -> Result<&str, Cause>
     ensures { word_read result ≡ one_word (words_of text.now) }
 {
-    let Some((word, rest)) = next_word(text) else {
-        return Err(Cause::MissingWord);
-    };
-    match next_word(rest) {
-        None => Ok(word),
-        Some(_) => Err(Cause::TooManyWords),
-    }
+    let (word, rest) = word_and_rest(text)?;
+    last_of(word, rest)
 }
 
 /// The one word that there is, and the empty word where there is none.
@@ -55,7 +62,7 @@ pub fn optional_word(text: &str) -> Result<&str, Cause>
 {
     match next_word(text) {
         None => Ok(""),
-        Some(_) => only_word(text),
+        Some((word, rest)) => last_of(word, rest),
     }
 }
 
@@ -63,8 +70,5 @@ pub fn optional_word(text: &str) -> Result<&str, Cause>
 pub fn head_and_tail(text: &str) -> Result<(&str, &str), Cause>
     ensures { cut_read result ≡ head_tail text.now }
 {
-    match text.split_once(':') {
-        Some(parts) => Ok(parts),
-        None => Err(Cause::MissingWord),
-    }
+    text.split_once(':').ok_or(Cause::MissingWord)
 }

@@ -5,22 +5,17 @@ ghost use Rattle.texts.specs.Results.{word_read, pair_read, cut_read};
 ghost use Rattle.std.specs.Prelude.{◌≡◌};
 
 use crate::Cause;
-use crate::cut::next_word;
+use crate::cut::{last_of, word_and_rest};
 
 /// The word after the label, and what follows it.
 pub fn after_label<'a>(label: &str, text: &'a str) -> Result<(&'a str, &'a str), Cause>
     ensures { pair_read result ≡ labelled label.now (words_of text.now) }
 {
-    let Some((word, rest)) = next_word(text) else {
-        return Err(Cause::MissingWord);
-    };
+    let (word, rest) = word_and_rest(text)?;
     if word != label {
         return Err(Cause::UnknownWord);
     }
-    match next_word(rest) {
-        Some(pair) => Ok(pair),
-        None => Err(Cause::MissingWord),
-    }
+    word_and_rest(rest)
 }
 
 /// The word after the label, where there is no more.
@@ -28,10 +23,7 @@ pub fn only_after<'a>(label: &str, text: &'a str) -> Result<&'a str, Cause>
     ensures { word_read result ≡ only_after label.now (words_of text.now) }
 {
     let (word, rest) = after_label(label, text)?;
-    match next_word(rest) {
-        None => Ok(word),
-        Some(_) => Err(Cause::TooManyWords),
-    }
+    last_of(word, rest)
 }
 
 /// The words after two labels, where there are no more.
@@ -39,6 +31,5 @@ pub fn pair_after<'a>(first: &str, second: &str, text: &'a str) -> Result<(&'a s
     ensures { cut_read result ≡ pair_after first.now second.now (words_of text.now) }
 {
     let (word, rest) = after_label(first, text)?;
-    let last = only_after(second, rest)?;
-    Ok((word, last))
+    Ok((word, only_after(second, rest)?))
 }

@@ -7,11 +7,13 @@
 mod cut;
 mod labels;
 mod numeral;
+mod trouble;
 mod wording;
 
-pub use cut::{head_and_tail, last_word, next_word, only_word, optional_word};
+pub use cut::{head_and_tail, last_word, next_word, only_word, optional_word, word_and_rest};
 pub use labels::{after_label, only_after, pair_after};
-pub use numeral::{number, small_number, wide_number};
+pub use numeral::{Unsigned, number};
+pub use trouble::Trouble;
 
 /// Why a text can't be read: one list for all that people type, so that a reader hands on what those below it tell.
 #[derive(Clone, Copy)]

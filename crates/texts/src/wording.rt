@@ -1,15 +1,15 @@
 // What people are told of a cause.
-ghost use Rattle.std.specs.Prelude.{◌≡◌, Some};
+ghost use Rattle.std.specs.Prelude.{Some};
 ghost use Rattle.texts.specs.Wording.{worded};
 
 use crate::Cause;
 use std::fmt;
 
-impl Cause {
-    fn wording(self) -> &'static str
-        ensures { result.now ≡ worded self }
-    {
-        match self {
+impl fmt::Display for Cause {
+    ghost output = { λ c. Some (worded c) };
+
+    fn fmt<W: fmt::Write>(&self, f: &mut fmt::Formatter<W>) -> fmt::Result {
+        let text = match self {
             Cause::UnknownWord => "unknown word",
             Cause::MissingWord => "a word is missing",
             Cause::TooManyWords => "too many words",
@@ -22,14 +22,7 @@ impl Cause {
             Cause::Backward => "the span ends before it begins",
             Cause::BadLetter => "a name has only the letters a to z",
             Cause::LongName => "a name has at most 32 letters",
-        }
-    }
-}
-
-impl fmt::Display for Cause {
-    ghost output = { λ c. Some (worded c) };
-
-    fn fmt<W: fmt::Write>(&self, f: &mut fmt::Formatter<W>) -> fmt::Result {
-        f.write_str(self.wording())
+        };
+        f.write_str(text)
     }
 }

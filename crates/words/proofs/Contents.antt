@@ -1,7 +1,12 @@
 -- What stands after a line's first word, as the code reads it. Assumes nothing.
-use Rattle.std.proofs.Common.{◌≡◌, ℕ, ◌<◌, ◌≤◌, true, false, cond, leb, List, [], length, Ok, Err, sym, ap, ◌∙◌, ⊎_elim, arith}
+use Rattle.std.proofs.Common.{◌≡◌, ℕ, ◌<◌, ◌≤◌, false, cond, leb, List, [], length, Some, None, Ok, Err, Option, MatchOption, sym, ap, ◌∙◌, ⊎_elim, arith}
 use Rattle.std.proofs.lemmas.Bool.{cond-true, cond-false, and_parts, and_cases, le-leb, lt-leb, both_ways}
 use Rattle.narrow.specs.Rows.{all}
+use Rattle.parts.specs.declared.Museums.{Museums}
+use Rattle.parts.specs.declared.Name.{Name}
+use Rattle.parts.specs.declared.Span.{Span}
+use Rattle.parts.specs.declared.KeyNumber.{KeyNumber}
+use Rattle.parts.specs.Items.{items}
 use Rattle.parts.specs.Limits.{is_museums, is_name, is_letter, longest_name, last_key}
 use Rattle.texts.specs.declared.Cause.{Cause}
 use Rattle.texts.specs.declared.Cause.TheVariants.{NoSuchMuseum, NoSuchKey, Backward, BadLetter, LongName}
@@ -21,11 +26,9 @@ module _ (w : List ℕ) where
     unfolding museums_of
     list_is = ap (λ r. and_then r known_museums) (sym e)
 
-    pub list_known : (ns : List ℕ) → ns ≡ ms → is_museums ns ≡ true → Ok ns ≡ museums_of w
-    list_known ns i h = ap Ok i ∙ sym (list_is ∙ cond-true (is_museums ms) _ _ (ap is_museums (sym i) ∙ h))
-
-    pub list_unknown : is_museums ms ≡ false → Err NoSuchMuseum ≡ museums_of w
-    list_unknown h = sym (list_is ∙ cond-false (is_museums ms) _ _ h)
+    pub list_told : (o : Option Museums) → MatchOption o (is_museums ms ≡ false) (λ m. items m.list ≡ ms) → MatchOption o (Err NoSuchMuseum ≡ museums_of w) (λ m. Ok (items m.list) ≡ museums_of w)
+    list_told None h = sym (list_is ∙ cond-false (is_museums ms) _ _ h)
+    list_told (Some m) h = ap Ok h ∙ sym (list_is ∙ cond-true (is_museums ms) _ _ (ap is_museums (sym h) ∙ m.possible))
 
   -- ---- a key
   pub key_fails : (c : Cause) → Err c ≡ number_of 65535 w → Err c ≡ key_of w
@@ -37,34 +40,27 @@ module _ (w : List ℕ) where
     unfolding key_of
     key_reads = ap (λ r. and_then r (λ k. cond (leb k last_key) (Ok k) (Err NoSuchKey))) (sym e)
 
-    pub key_known : (k : ℕ) → k ≡ n → k ≤ 4095 → Ok k ≡ key_of w
-    key_known k i h = ap Ok i ∙ sym (key_reads ∙ cond-true (leb n last_key) _ _ (le-leb n 4095 (omega arith)))
-
-    pub key_unknown : 4095 < n → Err NoSuchKey ≡ key_of w
-    key_unknown h = sym (key_reads ∙ cond-false (leb n last_key) _ _ (lt-leb n 4095 h))
+    pub key_told : (o : Option KeyNumber) → MatchOption o (4095 < n) (λ k. k.number ≡ n) → MatchOption o (Err NoSuchKey ≡ key_of w) (λ k. Ok k.number ≡ key_of w)
+    key_told None h = sym (key_reads ∙ cond-false (leb n last_key) _ _ (lt-leb n 4095 h))
+    key_told (Some k) h = ap Ok h ∙ sym (key_reads ∙ cond-true (leb n last_key) _ _ (le-leb n 4095 (omega (arith, k.known))))
 
   -- ---- a name, whose letters are ls
   pub name_long : 32 < length w → Err LongName ≡ name_of w
   unfolding name_of
   name_long h = sym (cond-false (leb (length w) longest_name) _ _ (lt-leb (length w) 32 h))
 
-  pub name_known : (ls : List ℕ) → ls ≡ w → is_name ls ≡ true → Ok ls ≡ name_of w
+  pub name_told : length w ≤ 32 → (o : Option Name) → MatchOption o (is_name w ≡ false) (λ n. items n.letters ≡ w) → MatchOption o (Err BadLetter ≡ name_of w) (λ n. Ok (items n.letters) ≡ name_of w)
   unfolding name_of
-  name_known ls e h =
-      let p = and_parts (leb (length w) longest_name) _ (ap is_name (sym e) ∙ h) in
-      ap Ok e ∙ sym (cond-true (leb (length w) longest_name) _ _ p.0 ∙ cond-true (all is_letter w) _ _ p.1)
-
-  pub name_bad : length w ≤ 32 → is_name w ≡ false → Err BadLetter ≡ name_of w
-  unfolding name_of
-  name_bad l h =
+  name_told l None h =
       let fits = le-leb (length w) 32 l in
       sym (cond-true (leb (length w) longest_name) _ _ fits ∙ cond-false (all is_letter w) _ _
       (⊎_elim (λ e. absurd (both_ways (leb (length w) longest_name) e fits)) (λ e. e) (and_cases (leb (length w) longest_name) _ h)))
+  name_told l (Some n) e =
+      let p = and_parts (leb (length w) longest_name) _ (ap is_name (sym e) ∙ n.possible) in
+      ap Ok e ∙ sym (cond-true (leb (length w) longest_name) _ _ p.0 ∙ cond-true (all is_letter w) _ _ p.1)
 
   -- ---- a span
   module _ (a b : ℕ) (e : span_of w ≡ ordered a b) where
-    pub span_known : (x y : ℕ) → x ≡ a → y ≡ b → x ≤ y → Ok (x, y) ≡ span_of w
-    span_known x y i j h = (λ k. Ok (i k, j k)) ∙ sym (e ∙ cond-true (leb a b) _ _ (le-leb a b (omega arith)))
-
-    pub span_backward : b < a → Err Backward ≡ span_of w
-    span_backward h = sym (e ∙ cond-false (leb a b) _ _ (lt-leb a b h))
+    pub span_told : (o : Option Span) → MatchOption o (b < a) (λ s. (s.from ≡ a) × (s.to ≡ b)) → MatchOption o (Err Backward ≡ span_of w) (λ s. Ok (s.from, s.to) ≡ span_of w)
+    span_told None h = sym (e ∙ cond-false (leb a b) _ _ (lt-leb a b h))
+    span_told (Some s) h = (λ k. Ok (h.0 k, h.1 k)) ∙ sym (e ∙ cond-true (leb a b) _ _ (le-leb a b (omega (arith, h.0, h.1, s.ordered))))

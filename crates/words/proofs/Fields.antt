@@ -1,35 +1,33 @@
 -- A wish's labels and what stands after them, as the code reads them. Assumes nothing.
-use Rattle.std.proofs.Common.{◌≡◌, ℕ, List, ◌∷◌, Ok, Err, codes, sym, ap, ◌∙◌}
+use Rattle.std.proofs.Common.{◌≡◌, ℕ, List, ◌∷◌, Ok, Err, codes, Result, sym, ap, ◌∙◌}
 use Rattle.std.specs.Str.{bytes_eq}
 use Rattle.std.proofs.lemmas.Bool.{cond-false}
 use Rattle.parts.specs.Limits.{WishView}
 use Rattle.texts.specs.declared.Cause.{Cause}
 use Rattle.texts.specs.declared.Cause.TheVariants.{UnknownWord}
 use Rattle.texts.specs.Cuts.{maybe_word}
-use Rattle.texts.specs.Numerals.{number_of}
 use Rattle.texts.specs.Results.{and_then, and_is}
 use Rattle.texts.specs.Labels.{labelled}
-use Rattle.words.specs.Wishes.{field_of, name_end, with_name, with_persons, with_minute, with_day, wish_of}
+use Rattle.words.specs.Wishes.{field_in, field_of, name_end, with_name, with_persons, with_minute, with_day, wish_of}
 use Rattle.texts.proofs.Labelling.{differs}
 
 -- ---- the number after a label
 
-module _ (label : List ℕ) (ws : List (List ℕ)) where
-  module _ (most : ℕ) where
-    pub no_field : (c : Cause) → Err c ≡ labelled label ws → Err c ≡ field_of most label ws
-    unfolding field_of
-    no_field c e = ap (λ r. and_then r (λ p. and_is (number_of most p.0) (λ n. (n, p.1)))) e
+module _ {N : Type 0} (number_in : List ℕ → Result N Cause) (label : List ℕ) (ws : List (List ℕ)) where
+  pub no_field : (c : Cause) → Err c ≡ labelled label ws → Err c ≡ field_in number_in label ws
+  unfolding field_in
+  no_field c e = ap (λ r. and_then r (λ p. and_is (number_in p.0) (λ n. (n, p.1)))) e
 
-    module _ (w : List ℕ) (us : List (List ℕ)) (e : Ok (w, us) ≡ labelled label ws) where
-      field_is : and_is (number_of most w) (λ n. (n, us)) ≡ field_of most label ws
-      unfolding field_of
-      field_is = ap (λ r. and_then r (λ p. and_is (number_of most p.0) (λ n. (n, p.1)))) e
+  module _ (w : List ℕ) (us : List (List ℕ)) (e : Ok (w, us) ≡ labelled label ws) where
+    field_is : and_is (number_in w) (λ n. (n, us)) ≡ field_in number_in label ws
+    unfolding field_in
+    field_is = ap (λ r. and_then r (λ p. and_is (number_in p.0) (λ n. (n, p.1)))) e
 
-      pub no_number : (c : Cause) → Err c ≡ number_of most w → Err c ≡ field_of most label ws
-      no_number c h = ap (λ r. and_is r (λ n. (n, us))) h ∙ field_is
+    pub no_number : (c : Cause) → Err c ≡ number_in w → Err c ≡ field_in number_in label ws
+    no_number c h = ap (λ r. and_is r (λ n. (n, us))) h ∙ field_is
 
-      pub number_is : (n : ℕ) → Ok n ≡ number_of most w → Ok (n, us) ≡ field_of most label ws
-      number_is n h = ap (λ r. and_is r (λ n. (n, us))) h ∙ field_is
+    pub number_is : (n : N) → Ok n ≡ number_in w → Ok (n, us) ≡ field_in number_in label ws
+    number_is n h = ap (λ r. and_is r (λ n. (n, us))) h ∙ field_is
 
 -- ---- the name
 

@@ -1,31 +1,33 @@
 -- The first word of a line, and what follows it. Assumes nothing.
-use Rattle.std.proofs.Common.{◌≡◌, ℕ, List, ◌∷◌, IsErrAnd, Ok, Err, codes, Result, sym, ap, ◌∙◌}
+use Rattle.std.proofs.Common.{◌≡◌, ℕ, List, [], ◌∷◌, IsOkAnd, MatchResult, Ok, Err, codes, Result, sym, ap, ◌∙◌}
 use Rattle.std.specs.Str.{bytes_eq}
 use Rattle.std.proofs.lemmas.Bool.{cond-false}
 use Rattle.parts.specs.Limits.{MuseumIn, DayIn, MinuteIn, PersonsUpTo, NameIs, ALimit, AnElse}
 use Rattle.texts.specs.declared.Cause.{Cause}
-use Rattle.texts.specs.declared.Cause.TheVariants.{UnknownWord}
+use Rattle.texts.specs.declared.Cause.TheVariants.{UnknownWord, MissingWord}
 use Rattle.texts.specs.Cuts.{words_of, one_word, maybe_word}
 use Rattle.words.specs.Lines.{museums_of, span_of, name_of, key_of, limit_of, line_of, line_in}
 use Rattle.texts.specs.Numerals.{number_of}
+use Rattle.texts.specs.Labels.{next}
 use Rattle.texts.specs.Results.{and_then, and_is}
 use Rattle.texts.proofs.Labelling.{differs}
-use Rattle.texts.proofs.Steps.{exits}
+use Rattle.texts.proofs.Steps.{err_ok, next_told}
 
--- a word s and what it says, by f, are read into t; r is what the exit of a `?` returns
-module _ {X Z : Type 0} (s : Result (List ℕ) Cause) (f : List ℕ → Result X Cause) (g : X → Z) (t : Result Z Cause) (at : and_is (and_then s f) g ≡ t) where
-  pub no_word : {Y : Type 0} (r : Result Y Cause) (view : Y → Z) (c : Cause) → IsErrAnd r (λ d. d ≡ c) → Err c ≡ s → and_is r view ≡ t
-  no_word r view c h e = exits r view c h ∙ ap (λ x. and_is (and_then x f) g) e ∙ at
+-- what `map` gave
+pub mapped : {Y Z X V : Type 0} {Q : Y → Z → Type 0} (seen : Y → X) (view : Z → V) (g : X → V) (m : Result Y Cause) (q : Result Z Cause) → MatchResult m (λ y. IsOkAnd q (Q y)) (λ c. q ≡ Err c) → ((y : Y) (z : Z) → Q y z → view z ≡ g (seen y)) → and_is q view ≡ and_is (and_is m seen) g
+mapped seen view g (Ok y) (Ok z) k makes = ap Ok (makes y z k)
+mapped seen view g (Ok y) (Err c) k makes = absurd k
+mapped seen view g (Err c) q k makes = ap (λ r. and_is r view) k
 
-  module _ (w : List ℕ) (e : Ok w ≡ s) where
-    said : and_is (f w) g ≡ t
-    said = ap (λ x. and_is (and_then x f) g) e ∙ at
+-- what `and_then` gave
+then_read : {W Y X : Type 0} {P : W → Type 0} (now : W → List ℕ) (seen : Y → X) (f : List ℕ → Result X Cause) (s : Result W Cause) (m : Result Y Cause) → MatchResult s P (λ c. m ≡ Err c) → ((w : W) → P w → and_is m seen ≡ f (now w)) → and_is m seen ≡ and_then (and_is s now) f
+then_read now seen f (Ok w) m h reads = reads w h
+then_read now seen f (Err c) m h reads = ap (λ r. and_is r seen) h
 
-    pub no_content : {Y : Type 0} (r : Result Y Cause) (view : Y → Z) (c : Cause) → IsErrAnd r (λ d. d ≡ c) → Err c ≡ f w → and_is r view ≡ t
-    no_content r view c h k = exits r view c h ∙ ap (λ x. and_is x g) k ∙ said
-
-    pub content : (x : X) → Ok x ≡ f w → Ok (g x) ≡ t
-    content x k = ap (λ y. and_is y g) k ∙ said
+-- q is what is made by g of what f reads of the word t, as t said
+pub chained : {W Y Z X V : Type 0} {P : W → Type 0} {Q : Y → Z → Type 0} {t : Result (List ℕ) Cause} {u : Result V Cause} (f : List ℕ → Result X Cause) (g : X → V) (now : W → List ℕ) (seen : Y → X) (view : Z → V) (s : Result W Cause) (m : Result Y Cause) (q : Result Z Cause)
+    → and_is s now ≡ t → and_is (and_then t f) g ≡ u → MatchResult s P (λ c. m ≡ Err c) → MatchResult m (λ y. IsOkAnd q (Q y)) (λ c. q ≡ Err c) → ((w : W) → P w → and_is m seen ≡ f (now w)) → ((y : Y) (z : Z) → Q y z → view z ≡ g (seen y)) → and_is q view ≡ u
+chained f g now seen view s m q word at h k reads makes = mapped seen view g m q k makes ∙ ap (λ r. and_is r g) (then_read now seen f s m h reads ∙ ap (λ r. and_then r f) word) ∙ at
 
 module _ (kind : List ℕ) (ws : List (List ℕ)) where
   pub at_museums : kind ≡ codes "museums" → and_is (and_then (one_word ws) museums_of) MuseumIn ≡ limit_of kind ws
@@ -55,11 +57,19 @@ module _ (kind : List ℕ) (ws : List (List ℕ)) where
       ∙ cond-false (bytes_eq kind (codes "persons")) _ _ (differs kind _ d) ∙ cond-false (bytes_eq kind (codes "name")) _ _ (differs kind _ e))
 
   -- a text that begins with the word kind
-  module _ (text : List ℕ) (begins : words_of text ≡ kind ∷ ws) where
+  module _ (text : List ℕ) (begins : Ok (kind, ws) ≡ next (words_of text)) where
     pub at_else : kind ≡ codes "else" → and_is (and_then (one_word ws) key_of) AnElse ≡ line_in text
     unfolding line_of
-    at_else e = ap (λ k. line_of (k ∷ ws)) (sym e) ∙ ap line_of (sym begins)
+    at_else e = ap (λ k. line_of (k ∷ ws)) (sym e) ∙ ap line_of (sym (next_told (words_of text) begins))
 
     pub at_limit : (kind ≡ codes "else" → ⊥) → and_is (limit_of kind ws) ALimit ≡ line_in text
     unfolding line_of
-    at_limit h = sym (ap line_of begins ∙ cond-false (bytes_eq kind (codes "else")) _ _ (differs kind _ h))
+    at_limit h = sym (ap line_of (next_told (words_of text) begins) ∙ cond-false (bytes_eq kind (codes "else")) _ _ (differs kind _ h))
+
+pub no_line : (text : List ℕ) (c : Cause) → Err c ≡ next (words_of text) → Err c ≡ line_in text
+unfolding line_of
+no_line text c e = by (words_of text) e
+  where
+    by : (ws : List (List ℕ)) → Err c ≡ next ws → Err c ≡ line_of ws
+    by [] e = let same : c ≡ MissingWord = cc in ap Err same
+    by (w ∷ ws) e = absurd (err_ok c _ e)

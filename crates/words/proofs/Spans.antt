@@ -1,6 +1,6 @@
 -- Two numbers with a dash between them. Assumes nothing.
-use Rattle.std.proofs.Common.{◌≡◌, ℕ, ◌≤◌, true, false, cond, leb, List, [], ◌∷◌, ◌++◌, Some, None, Ok, Err, Option, sym, refl, ap, ◌∙◌, subst, arith}
-use Rattle.std.specs.Option.{option_map}
+use Rattle.std.proofs.Common.{◌≡◌, ℕ, ◌≤◌, true, false, cond, leb, List, [], ◌∷◌, ◌++◌, Some, None, Ok, Option, Result, sym, refl, ap, ◌∙◌, subst, arith}
+use Rattle.std.specs.Option.{option_map, ok_or}
 use Rattle.std.specs.Int.{IsInRange}
 use Rattle.std.proofs.lemmas.Bool.{cond-true, and_parts, and_from, leb-true, le-leb}
 use Rattle.std.proofs.lemmas.Bool.Decides.{nat_tests}
@@ -23,27 +23,17 @@ dash_first (b ∷ bs) = ap (λ o. cond (dash b) (Some ([], bs)) (option_map (λ 
 
 -- ---- what `split_once` gave
 
-pub no_span : (w : List ℕ) → None ≡ at_first dash w → Err NotASpan ≡ span_of w
+-- the numbers on both sides of a dash
+abbrev pub ends : List ℕ × List ℕ → Result (ℕ × ℕ) Cause
+ends p = and_then (number_of 65535 p.0) (λ a. and_then (number_of 65535 p.1) (λ b. ordered a b))
+
+pub spans : (w : List ℕ) → and_then (ok_or (at_first dash w) NotASpan) ends ≡ span_of w
 unfolding span_of
-no_span w e = ap between (e ∙ dash_first w)
-
-module _ (w x y : List ℕ) (e : Some (x, y) ≡ at_first dash w) where
-  pub span_is : span_of w ≡ and_then (number_of 65535 x) (λ a. and_then (number_of 65535 y) (λ b. ordered a b))
-  unfolding span_of
-  span_is = ap between (sym (e ∙ dash_first w))
-
-  pub no_from : (c : Cause) → Err c ≡ number_of 65535 x → Err c ≡ span_of w
-  no_from c p = sym (span_is ∙ ap (λ r. and_then r (λ a. and_then (number_of 65535 y) (λ b. ordered a b))) (sym p))
-
-  module _ (a : ℕ) (p : Ok a ≡ number_of 65535 x) where
-    from_is : span_of w ≡ and_then (number_of 65535 y) (λ b. ordered a b)
-    from_is = span_is ∙ ap (λ r. and_then r (λ n. and_then (number_of 65535 y) (λ b. ordered n b))) (sym p)
-
-    pub no_to : (c : Cause) → Err c ≡ number_of 65535 y → Err c ≡ span_of w
-    no_to c q = sym (from_is ∙ ap (λ r. and_then r (λ b. ordered a b)) (sym q))
-
-    pub both_are : (b : ℕ) → Ok b ≡ number_of 65535 y → span_of w ≡ ordered a b
-    both_are b q = from_is ∙ ap (λ r. and_then r (λ n. ordered a n)) (sym q)
+spans w = by (at_first dash w) ∙ ap between (dash_first w)
+  where
+    by : (o : Option (List ℕ × List ℕ)) → and_then (ok_or o NotASpan) ends ≡ between o
+    by None = refl
+    by (Some p) = refl
 
 -- ---- which words are spans
 

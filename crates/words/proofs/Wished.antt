@@ -14,7 +14,7 @@ use Rattle.words.specs.Means.{Named, left_off, wordless, word_is, WishMeans, wis
 use Rattle.printing.specs.Printed.{end_words, wish_words}
 use Rattle.texts.specs.Results.{and_then, and_is}
 use Rattle.texts.specs.Labels.{next, labelled}
-use Rattle.words.specs.Wishes.{field_of, name_end, with_name, with_persons, with_minute, with_day, wish_of, wish_in}
+use Rattle.words.specs.Wishes.{field_in, field_of, name_end, with_name, with_persons, with_minute, with_day, wish_of, wish_in}
 use Rattle.words.proofs.Back.{decimal_free, decimal_full, name_free}
 use Rattle.texts.proofs.Cuts.{one_word, word_then}
 use Rattle.texts.proofs.Digits.{number_takes, number_told}
@@ -23,7 +23,7 @@ use Rattle.texts.proofs.Steps.{err_ok, then_ok, is_ok, cond_ok, maybe_told}
 -- ---- words that are a wish are read as it
 
 field_takes : (most : ℕ) (label a : List ℕ) (n : ℕ) (ws : List (List ℕ)) → most < 2 ^ 64 → Writes a n → n ≤ most → field_of most label (label ∷ a ∷ ws) ≡ Ok (n, ws)
-unfolding field_of labelled
+unfolding field_in labelled
 field_takes most label a n ws small h le =
     ap (λ r. and_then r (λ p. and_is (number_of most p.0) (λ k. (k, p.1)))) (cond-true (bytes_eq label label) (Ok (a, ws)) (Err UnknownWord) ((bytes_eq-Decides label label).1 refl))
     ∙ ap (λ r. and_is r (λ k. (k, ws))) (number_takes a n (omega arith) h most le)
@@ -58,7 +58,7 @@ next_told [] p e = absurd (err_ok _ _ e)
 next_told (w ∷ ws) p e = let is : (w, ws) ≡ p = cc in ap (λ q. q.0 ∷ q.1) is
 
 field_told : (most : ℕ) (label : List ℕ) (ws : List (List ℕ)) (p : ℕ × List (List ℕ)) → most < 2 ^ 64 → field_of most label ws ≡ Ok p → Field most label ws p
-unfolding field_of labelled
+unfolding field_in labelled
 field_told most label ws p small e =
     let a = then_ok (labelled label ws) _ p e in
     let b = then_ok (next ws) (λ q. cond (bytes_eq q.0 label) (next q.1) (Err UnknownWord)) a.0 a.1 in

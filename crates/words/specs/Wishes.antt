@@ -13,15 +13,19 @@ use Rattle.texts.specs.Numerals.{number_of}
 use Rattle.texts.specs.Results.{and_then, and_is}
 
 -- what was read: a number, and the words after it; a wish
-abbrev pub field_read : Result (ℕ × Bor (List ℕ)) Cause → Result (ℕ × List (List ℕ)) Cause
+abbrev pub field_read : {N : Type 0} → Result (N × Bor (List ℕ)) Cause → Result (N × List (List ℕ)) Cause
 field_read r = and_is r (λ p. (p.0, words_of p.1.now))
 
 abbrev pub wish_parsed : Result RawWish Cause → Result WishView Cause
 wish_parsed r = and_is r raw_view
 
+-- what number_in reads after the label
+unfoldable pub field_in : {N : Type 0} → (List ℕ → Result N Cause) → List ℕ → List (List ℕ) → Result (N × List (List ℕ)) Cause
+field_in number_in label ws = and_then (labelled label ws) (λ p. and_is (number_in p.0) (λ n. (n, p.1)))
+
 -- the number after the label
-unfoldable pub field_of : ℕ → List ℕ → List (List ℕ) → Result (ℕ × List (List ℕ)) Cause
-field_of most label ws = and_then (labelled label ws) (λ p. and_is (number_of most p.0) (λ n. (n, p.1)))
+abbrev pub field_of : ℕ → List ℕ → List (List ℕ) → Result (ℕ × List (List ℕ)) Cause
+field_of most label ws = field_in (number_of most) label ws
 
 -- the name that the words after the numbers say
 abbrev pub name_end : List (List ℕ) → Result (List ℕ) Cause

@@ -4,40 +4,31 @@ ghost use Rattle.words.specs.Lines.{museums_of, span_of, name_of, key_of};
 ghost use Rattle.words.specs.Results.{museums_read, span_read, name_read, key_read};
 
 use lines::{KeyNumber, Museums, Name, Span};
-use texts::{Cause, number, small_number};
+use texts::{Cause, number};
 
 /// Numbers with commas between them, as `3,4`.
 pub fn museums_of(word: &str) -> Result<Museums, Cause>
     ensures { museums_read result ≡ museums_of word.now }
 {
+    // Without a heap the numbers stand in a fixed array, with their count beside it.
     let mut list = [0; 8];
     let mut count = 0;
     for part in word.split(',') {
         if count == 8 {
             return Err(Cause::TooManyMuseums);
         }
-        list[count] = small_number(part)?;
+        list[count] = number(part)?;
         count += 1;
     }
-    match Museums::new(&list[0..count]) {
-        Some(museums) => Ok(museums),
-        None => Err(Cause::NoSuchMuseum),
-    }
+    Museums::new(&list[0..count]).ok_or(Cause::NoSuchMuseum)
 }
 
 /// The first and the last number, as `10-20`.
 pub fn span_of(word: &str) -> Result<Span, Cause>
     ensures { span_read result ≡ span_of word.now }
 {
-    let Some((from, to)) = word.split_once('-') else {
-        return Err(Cause::NotASpan);
-    };
-    let from = number(from)?;
-    let to = number(to)?;
-    match Span::new(from, to) {
-        Some(span) => Ok(span),
-        None => Err(Cause::Backward),
-    }
+    let (from, to) = word.split_once('-').ok_or(Cause::NotASpan)?;
+    Span::new(number(from)?, number(to)?).ok_or(Cause::Backward)
 }
 
 pub fn name_of(word: &str) -> Result<Name, Cause>
@@ -47,18 +38,12 @@ pub fn name_of(word: &str) -> Result<Name, Cause>
     if letters.len() > 32 {
         return Err(Cause::LongName);
     }
-    match Name::new(letters) {
-        Some(name) => Ok(name),
-        None => Err(Cause::BadLetter),
-    }
+    Name::new(letters).ok_or(Cause::BadLetter)
 }
 
 /// The number of a key.
 pub fn key_of(word: &str) -> Result<KeyNumber, Cause>
     ensures { key_read result ≡ key_of word.now }
 {
-    match KeyNumber::new(number(word)?) {
-        Some(key) => Ok(key),
-        None => Err(Cause::NoSuchKey),
-    }
+    KeyNumber::new(number(word)?).ok_or(Cause::NoSuchKey)
 }

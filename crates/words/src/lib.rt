@@ -20,24 +20,22 @@ pub mod laws;
 
 pub use content::key_of;
 use content::{museums_of, name_of, span_of};
-use field::{field, name_field, small_field};
+use field::{field, name_field};
 use lines::{Limit, Line, RawWish};
 pub use printing::Words;
 pub use texts::Cause;
-use texts::{next_word, only_word, optional_word, small_number};
+use texts::{number, only_word, optional_word, word_and_rest};
 
 /// Reads a line from its words.
 pub fn parse_line(text: &str) -> Result<Line, Cause>
     ensures value { line_parsed result ≡ line_in text.now }
     ensures told { Told (words_of text.now) (line_parsed result) }
 {
-    let Some((kind, rest)) = next_word(text) else {
-        return Err(Cause::MissingWord);
-    };
-    if kind == "else" {
-        return Ok(Line::Else(key_of(only_word(rest)?)?));
+    let (kind, rest) = word_and_rest(text)?;
+    match kind {
+        "else" => only_word(rest).and_then(key_of).map(Line::Else),
+        _ => parse_limit(kind, rest).map(Line::Limit),
     }
-    Ok(Line::Limit(parse_limit(kind, rest)?))
 }
 
 /// Reads a wish from its words, in range or not.
@@ -48,10 +46,10 @@ pub fn parse_wish(text: &str) -> Result<RawWish<'_>, Cause>
     ensures value { wish_parsed result ≡ wish_in text.now }
     ensures told { WishTold (words_of text.now) (wish_parsed result) }
 {
-    let (museum, rest) = small_field("museum", text)?;
+    let (museum, rest) = field("museum", text)?;
     let (day, rest) = field("day", rest)?;
     let (minute, rest) = field("minute", rest)?;
-    let (persons, rest) = small_field("persons", rest)?;
+    let (persons, rest) = field("persons", rest)?;
     let name = name_field(rest)?.as_bytes();
     Ok(RawWish {
         museum,
@@ -67,11 +65,14 @@ fn parse_limit(kind: &str, rest: &str) -> Result<Limit, Cause>
     ensures { limit_parsed result ≡ limit_of kind.now (words_of rest.now) }
 {
     match kind {
-        "museums" => Ok(Limit::Museums(museums_of(only_word(rest)?)?)),
-        "days" => Ok(Limit::Days(span_of(only_word(rest)?)?)),
-        "minutes" => Ok(Limit::Minutes(span_of(only_word(rest)?)?)),
-        "persons" => Ok(Limit::Persons(small_number(only_word(rest)?)?)),
-        "name" => Ok(Limit::Name(name_of(optional_word(rest)?)?)),
+        "museums" => only_word(rest).and_then(museums_of).map(Limit::Museums),
+        "days" => only_word(rest).and_then(span_of).map(Limit::Days),
+        "minutes" => only_word(rest).and_then(span_of).map(Limit::Minutes),
+        // A generic function has no value of its own: a closure stands for it.
+        "persons" => only_word(rest)
+            .and_then(|word| number(word))
+            .map(Limit::Persons),
+        "name" => optional_word(rest).and_then(name_of).map(Limit::Name),
         _ => Err(Cause::UnknownWord),
     }
 }

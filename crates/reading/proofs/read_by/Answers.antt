@@ -1,5 +1,6 @@
 use Rattle.std.proofs.Common.{subst}
-use Rattle.statements.specs.Views.{Told, stated}
+use Rattle.statements.specs.Views.{stated}
+use Rattle.texts.specs.Told.{Told}
 use Rattle.reading.proofs.FirstWords.{at_house, at_key, at_ticket, at_yes, at_add, at_tie, at_give, at_wish, at_show, at_none}
 use Rattle.reading.proofs.read_by.Goals as goal
 

@@ -1,13 +1,12 @@
 use Rattle.std.proofs.Common.{◌∙◌}
-use Rattle.texts.proofs.Labelling.{no_only, only_is}
-use Rattle.texts.proofs.Steps.{exits}
+use Rattle.texts.specs.Labels.{no_more, only_after}
+use Rattle.texts.proofs.Steps.{exits, so, no}
 use Rattle.texts.proofs.labels.only_after.Goals as goal
 
 pub returns-in_err-word : goal.returns-in_err-word
-returns-in_err-word c = exits c.from_residual.result _ _ c.from_residual.ensures.1 ∙ no_only c.args.label.now _ _ c.in_err-word.ensures
+unfolding only_after
+returns-in_err-word c = exits c.from_residual.result _ _ c.from_residual.ensures.1 ∙ no _ c.in_err-word.ensures
 
-pub returns-in-None : goal.returns-in-None
-returns-in-None c = only_is c.args.label.now _ _ _ _ c.in_ok-word.ensures c.in-None.ensures
-
-pub returns-in-Some : goal.returns-in-Some
-returns-in-Some c = only_is c.args.label.now _ _ _ _ c.in_ok-word.ensures c.in-Some.ensures
+pub returns : goal.returns
+unfolding only_after
+returns c = so (λ p. no_more p.0 p.1) c.in_ok-word.ensures c.last_of.ensures

@@ -1,14 +1,12 @@
-use Rattle.texts.proofs.Digits.{digit_not, digit_more, digits_all}
+use Rattle.std.proofs.Common.{rules, tests}
+use Rattle.std.specs.Char.{is_ascii_digit}
+use Rattle.std.proofs.lemmas.Iterator.Adapters.{YieldsList-from_bytes}
+use Rattle.std.proofs.lemmas.Iterator.Search.{all_from_yields_List}
+use Rattle.texts.proofs.Digits.{all_is}
 use Rattle.texts.proofs.numeral.is_numeral.Goals as goal
 
-pub returns-then-not-is_ascii_digit : goal.returns-then-not-is_ascii_digit
-returns-then-not-is_ascii_digit c =
-    digit_not c.args.word.now _ c.as_bytes-bytes.ensures.value c.loop-byte.byte-index c.loop-byte.invariant c.loop-byte-test.true c.if-not-is_ascii_digit.ensures.value
-
-pub loop-byte-preserved : goal.loop-byte-preserved
-loop-byte-preserved c =
-    digit_more c.args.word.now _ c.as_bytes-bytes.ensures.value c.loop-byte.byte-index c.loop-byte.invariant c.loop-byte-test.true c.if-not-is_ascii_digit.ensures.value
-
-pub returns : goal.returns
-returns c =
-    digits_all c.args.word.now _ c.as_bytes-bytes.ensures.value c.loop-byte.byte-index c.loop-byte.invariant c.loop-byte-test.false c.is_empty.result c.is_empty.ensures
+pub returns-then-not-is_empty : goal.returns-then-not-is_empty
+returns-then-not-is_empty c =
+    all_is c.args.word.now c.all.result
+    (all_from_yields_List is_ascii_digit _ _ c.all.result c.all.ensures.ran (YieldsList-from_bytes c.args.word.now c.bytes.ensures.rest) (λ x b q k. search (rules, tests)))
+    c.if-not-is_empty.ensures

@@ -1,8 +1,10 @@
 use Rattle.std.proofs.Common.{sym, ◌∙◌, arith}
 use native.Mathlib.Numerals.{unary_clauses}
-use Rattle.words.proofs.Contents.{list_fails, list_known, list_unknown}
+use Rattle.parts.specs.Items.{items}
+use Rattle.texts.specs.declared.Cause.TheVariants.{NoSuchMuseum}
+use Rattle.words.proofs.Contents.{list_fails, list_told}
 use Rattle.words.proofs.Listing.{too_many, no_number, one_more, no_more}
-use Rattle.texts.proofs.Steps.{exits}
+use Rattle.texts.proofs.Steps.{exits, or_told}
 use Rattle.words.proofs.content.museums_of.Goals as goal
 
 pub returns-then-count-eq8 : goal.returns-then-count-eq8
@@ -19,10 +21,7 @@ pub loop-part-preserved : goal.loop-part-preserved
 loop-part-preserved c =
     one_more c.loop-part.invariant c.next.new.self c.in-Some.part c.in-Some.ensures.steps (omega (arith, c.loop-part.invariant.room, c.if-count-eq8.false)) _ c.in_ok-list.ensures
 
-pub returns-in-Some-new : goal.returns-in-Some-new
-returns-in-Some-new c =
-    list_known c.args.word.now _ (no_more c.loop-part.invariant (sym c.in-None.ensures.steps.0)) _ (simp unary_clauses at c.in-Some-new.ensures) c.in-Some-new.museums.possible
-
-pub returns-in-None-new : goal.returns-in-None-new
-returns-in-None-new c =
-    list_unknown c.args.word.now _ (no_more c.loop-part.invariant (sym c.in-None.ensures.steps.0)) (simp unary_clauses at c.in-None-new.ensures)
+pub returns : goal.returns
+returns c =
+    let ms = no_more c.loop-part.invariant (sym c.in-None.ensures.steps.0) in
+    or_told (λ m. items m.list) NoSuchMuseum c.new.result _ c.ok_or.ensures.value (list_told c.args.word.now _ ms c.new.result (simp unary_clauses at c.new.ensures))

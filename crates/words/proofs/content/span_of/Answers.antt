@@ -1,32 +1,32 @@
-use Rattle.std.proofs.Common.{Some, None, ◌∙◌, arith}
+use Rattle.std.proofs.Common.{sym, refl, ap, ◌∙◌, arith}
+use Rattle.std.specs.Option.{ok_or}
+use Rattle.texts.specs.declared.Cause.TheVariants.{NotASpan, Backward}
+use Rattle.texts.specs.Results.{both_parts, cut_read}
 use Rattle.texts.proofs.Cuts.{split_is}
-use Rattle.words.proofs.Contents.{span_known, span_backward}
-use Rattle.words.proofs.Spans.{no_span, no_from, no_to, both_are}
-use Rattle.texts.proofs.Steps.{exits}
+use Rattle.texts.proofs.Steps.{exits, so, no, or_is, or_told}
+use Rattle.words.proofs.Contents.{span_told}
+use Rattle.words.proofs.Spans.{ends, spans}
 use Rattle.words.proofs.content.span_of.Goals as goal
-
-pub returns-in_default : goal.returns-in_default
-returns-in_default c = no_span c.args.word.now (split_is 45 (omega arith) c.args.word.now None c.in_default.ensures.cases)
 
 pub returns-in_err-from : goal.returns-in_err-from
 returns-in_err-from c =
-    let p = split_is 45 (omega arith) c.args.word.now (Some (c.in-Some.from, c.in-Some.to)) c.in-Some.ensures.cases in
-    exits c.from_residual.result _ _ c.from_residual.ensures.1 ∙ no_from c.args.word.now c.in-Some.from.now c.in-Some.to.now p _ c.in_err-from.ensures
+    let cut = or_is both_parts NotASpan c.split_once.result _ c.ok_or.ensures.value ∙ ap (λ o. ok_or o NotASpan) (split_is 45 (omega arith) c.args.word.now c.split_once.result c.split_once.ensures.cases) in
+    exits c.from_residual.result _ _ c.from_residual.ensures.1 ∙ no ends (ap cut_read (sym c.in_err-from.was) ∙ cut) ∙ spans c.args.word.now
 
-pub returns-in_err-to : goal.returns-in_err-to
-returns-in_err-to c =
-    let p = split_is 45 (omega arith) c.args.word.now (Some (c.in-Some.from, c.in-Some.to)) c.in-Some.ensures.cases in
-    exits c.from_residual-in_err-to.result _ _ c.from_residual-in_err-to.ensures.1
-    ∙ no_to c.args.word.now c.in-Some.from.now c.in-Some.to.now p c.in_ok-from.from c.in_ok-from.ensures _ c.in_err-to.ensures
+pub returns-in_err-number : goal.returns-in_err-number
+returns-in_err-number c =
+    let cut = or_is both_parts NotASpan c.split_once.result _ c.ok_or.ensures.value ∙ ap (λ o. ok_or o NotASpan) (split_is 45 (omega arith) c.args.word.now c.split_once.result c.split_once.ensures.cases) in
+    exits c.from_residual-in_err-number.result _ _ c.from_residual-in_err-number.ensures.1
+    ∙ so ends (ap cut_read (sym c.in_ok-from.was) ∙ cut) (no _ c.in_err-number.ensures) ∙ spans c.args.word.now
 
-pub returns-in-Some-new : goal.returns-in-Some-new
-returns-in-Some-new c =
-    let p = split_is 45 (omega arith) c.args.word.now (Some (c.in-Some.from, c.in-Some.to)) c.in-Some.ensures.cases in
-    let e = both_are c.args.word.now c.in-Some.from.now c.in-Some.to.now p c.in_ok-from.from c.in_ok-from.ensures c.in_ok-to.to c.in_ok-to.ensures in
-    span_known c.args.word.now c.in_ok-from.from c.in_ok-to.to e _ _ c.in-Some-new.ensures.0 c.in-Some-new.ensures.1 c.in-Some-new.span.ordered
+pub returns-in_err-number-2 : goal.returns-in_err-number-2
+returns-in_err-number-2 c =
+    let cut = or_is both_parts NotASpan c.split_once.result _ c.ok_or.ensures.value ∙ ap (λ o. ok_or o NotASpan) (split_is 45 (omega arith) c.args.word.now c.split_once.result c.split_once.ensures.cases) in
+    exits c.from_residual-in_err-number-2.result _ _ c.from_residual-in_err-number-2.ensures.1
+    ∙ so ends (ap cut_read (sym c.in_ok-from.was) ∙ cut) (so _ c.in_ok-number.ensures (no _ c.in_err-number-2.ensures)) ∙ spans c.args.word.now
 
-pub returns-in-None : goal.returns-in-None
-returns-in-None c =
-    let p = split_is 45 (omega arith) c.args.word.now (Some (c.in-Some.from, c.in-Some.to)) c.in-Some.ensures.cases in
-    let e = both_are c.args.word.now c.in-Some.from.now c.in-Some.to.now p c.in_ok-from.from c.in_ok-from.ensures c.in_ok-to.to c.in_ok-to.ensures in
-    span_backward c.args.word.now c.in_ok-from.from c.in_ok-to.to e c.in-None.ensures
+pub returns : goal.returns
+returns c =
+    let cut = or_is both_parts NotASpan c.split_once.result _ c.ok_or.ensures.value ∙ ap (λ o. ok_or o NotASpan) (split_is 45 (omega arith) c.args.word.now c.split_once.result c.split_once.ensures.cases) in
+    let both = so ends (ap cut_read (sym c.in_ok-from.was) ∙ cut) (so _ c.in_ok-number.ensures (so _ c.in_ok-number-2.ensures refl)) ∙ spans c.args.word.now in
+    or_told (λ s. (s.from, s.to)) Backward c.new.result _ c.ok_or-2.ensures.value (span_told c.args.word.now _ _ (sym both) c.new.result c.new.ensures)

@@ -1,0 +1,4 @@
+pub mod Cuts
+pub mod Lines
+pub mod LineByLine
+pub mod Comments
