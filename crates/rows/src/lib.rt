@@ -5,6 +5,7 @@ mod adding;
 mod reader;
 mod reading;
 mod row;
+mod same;
 
 pub use adding::most_lines;
 pub use reader::Reader;
