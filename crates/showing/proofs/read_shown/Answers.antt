@@ -4,6 +4,7 @@ use Rattle.std.specs.Bool.{then_some}
 use Rattle.std.specs.Option.{option_map}
 use Rattle.std.proofs.lemmas.Bool.{eqb-true, eqb-false}
 use Rattle.std.proofs.lemmas.Bool.Decides.{Decides-eqb}
+use Rattle.std.proofs.lemmas.List.{nil_from_length}
 use Rattle.std.proofs.lemmas.Option.{MatchOption-at_some}
 use Rattle.std.proofs.lemmas.Result.{err_from_is_err_and}
 use Rattle.std.proofs.lemmas.Slice.Eq.{strip_prefix_is}
@@ -74,11 +75,6 @@ returns-then-not-is_empty c =
     more_left c.args.bytes.now _ _ (parts_read c.args.bytes.now _ kind _ _ asked _ _ (at ∙ c.in_ok-ticket.ensures) _ _ c.in_ok-yeses.ensures.read)
     (λ e. eqb-false _ _ (sym c.if-not-is_empty.ensures) (ap length e))
 
--- nothing is left
-none : (bs : Bytes) → true ≡ eqb (length bs) 0 → bs ≡ []
-none [] e = refl
-none (b ∷ bs) e = absurd (omega (arith, eqb-true (length (b ∷ bs)) 0 (sym e)))
-
 pub returns-in_err-wish : goal.returns-in_err-wish
 returns-in_err-wish c =
     let p = err_from_is_err_and c.from_residual-in_err-wish.result c.from_residual-in_err-wish.ensures.1 in
@@ -88,7 +84,7 @@ returns-in_err-wish c =
     let (out, same) = absent _ _ _ c.in_err-wish.ensures.value in
     rw (p.1, p.2)
     (out_of_range c.args.bytes.now _ _ (parts_read c.args.bytes.now _ kind _ _ asked _ _ (at ∙ c.in_ok-ticket.ensures) _ _ c.in_ok-yeses.ensures.read)
-    (none _ c.if-not-is_empty.ensures) (not_in_range (raw_view c.in_ok-raw.raw) _ (sym (ap (option_map wish_view) out) ∙ c.in_range.ensures)) ∙ ap Err same)
+    (nil_from_length _ (eqb-true _ _ (sym c.if-not-is_empty.ensures))) (not_in_range (raw_view c.in_ok-raw.raw) _ (sym (ap (option_map wish_view) out) ∙ c.in_range.ensures)) ∙ ap Err same)
 
 pub returns : goal.returns
 returns c =
@@ -98,5 +94,5 @@ returns c =
     let ranged = sym c.in_range.ensures ∙ ap (option_map wish_view) c.in_ok-wish.ensures.ok_part in
     let (good, same) = when_true_is (in_range (raw_view c.in_ok-raw.raw)) (raw_view c.in_ok-raw.raw) _ ranged in
     all_read c.args.bytes.now _ _ (parts_read c.args.bytes.now _ kind _ _ asked _ _ (at ∙ c.in_ok-ticket.ensures) _ _ c.in_ok-yeses.ensures.read)
-    (none _ c.if-not-is_empty.ensures) good ∙
+    (nil_from_length _ (eqb-true _ _ (sym c.if-not-is_empty.ensures))) good ∙
     ap (λ (w : WishView). Ok (record { asked = w; ticket = ticket_view c.in_ok-ticket.ticket; yeses = map tied_view (vec_items c.in_ok-yeses.yeses) })) same
