@@ -17,7 +17,7 @@ pub use held::{AddError, Book};
 use hmac::Mac;
 use keys::read_key;
 use lines::{Fault, KeyNumber};
-use numbers::two_bytes;
+use numbers::Number;
 use rows::Reader;
 use showing::Unread;
 use std::alloc::{AllocError, Global};
@@ -66,7 +66,7 @@ impl Book {
         let mut out = Vec::new(heap);
         out.push(Kind::Book as u8)?;
         out.extend_from_slice(&self.house.bytes())?;
-        out.extend_from_slice(&two_bytes(self.keys.len() as u16))?;
+        out.extend_from_slice(&(self.keys.len() as u16).to_bytes())?;
         for key in self.keys.as_slice() {
             out.extend_from_slice(key.to_bytes(heap)?.as_slice())?;
         }
@@ -81,7 +81,7 @@ pub fn read_book(heap: Global, bytes: &[u8]) -> Result<Book, Unread>
     let mut reader = Reader::new(bytes);
     read_kind(&mut reader, Kind::Book as u8)?;
     let house = Mac::read(&mut reader)?;
-    let Some(count) = reader.two() else {
+    let Some(count) = reader.number::<u16, _>() else {
         return Err(Unread::Bad(Fault::Shape));
     };
     let mut book = Book::new(heap, house)?;

@@ -11,7 +11,7 @@ use crate::coded::Coded;
 use crate::fields::read_kind;
 use crate::kind::Kind;
 use lines::{Fault, KeyNumber, Place};
-use numbers::four_bytes;
+use numbers::Number;
 use rows::{Lines, Reader};
 use std::alloc::AllocError;
 use tickets::{TicketBody, YesBody};
@@ -25,7 +25,7 @@ impl Coded for TicketBody {
 
     fn read(reader: &mut Reader<'_>) -> Result<TicketBody, Fault> {
         read_kind(reader, Kind::Ticket as u8)?;
-        let number = reader.four().ok_or(Fault::Shape)?;
+        let number = reader.number().ok_or(Fault::Shape)?;
         let lines = reader.row(Place::Ticket)?;
         if lines.len() == 0 {
             return Err(Fault::Unreadable);
@@ -35,7 +35,7 @@ impl Coded for TicketBody {
 
     fn write(&self, out: &mut Vec<u8>) -> Result<(), AllocError> {
         out.push(Kind::Ticket as u8)?;
-        out.extend_from_slice(&four_bytes(self.number))?;
+        out.extend_from_slice(&self.number.to_bytes())?;
         write_row(out, &self.lines)
     }
 }

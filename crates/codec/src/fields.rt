@@ -7,7 +7,7 @@ ghost use Rattle.narrow.specs.Term.{Bytes};
 use crate::coded::Coded;
 use hmac::Mac;
 use lines::{Fault, KeyNumber};
-use numbers::two_bytes;
+use numbers::Number;
 use rows::Reader;
 use std::alloc::AllocError;
 
@@ -32,12 +32,12 @@ impl Coded for KeyNumber {
     ghost format = { key_number };
 
     fn read(reader: &mut Reader<'_>) -> Result<KeyNumber, Fault> {
-        let number = reader.two().ok_or(Fault::Shape)?;
+        let number = reader.number().ok_or(Fault::Shape)?;
         KeyNumber::new(number).ok_or(Fault::Unreadable)
     }
 
     fn write(&self, out: &mut Vec<u8>) -> Result<(), AllocError> {
-        out.extend_from_slice(&two_bytes(self.get()))
+        out.extend_from_slice(&self.get().to_bytes())
     }
 }
 

@@ -1,7 +1,7 @@
 -- What is read of a line's content. Assumes nothing.
 use Rattle.std.proofs.Common.{◌≡◌, ℕ, ◌<◌, ◌≤◌, List, [], Some, None, Option, arith, MatchOption}
 use Rattle.numbers.specs.Bytes.{two_bytes}
-use Rattle.numbers.proofs.Bytes.{two_bytes_same}
+use Rattle.numbers.specs.Widths.{two_bytes_same}
 use Rattle.parts.specs.declared.KeyNumber.{KeyNumber}
 use Rattle.parts.specs.declared.Span.{Span}
 use Rattle.lines.specs.Format.{span_bytes}

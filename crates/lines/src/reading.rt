@@ -6,7 +6,6 @@ ghost use Rattle.parts.specs.Items.{items};
 ghost use Rattle.parts.specs.Limits.{is_museums, is_name};
 ghost use Rattle.wishes.specs.Format.{counted_bytes};
 
-use numbers::read_two;
 use parts::{KeyNumber, Museums, Name, Span};
 
 // A count, and so many bytes.
@@ -25,30 +24,20 @@ fn read_counted(content: &[u8]) -> Option<&[u8]>
 pub fn read_museums(content: &[u8]) -> Option<Museums>
     ensures { MatchOption result ((ms : List ℕ) → is_museums ms ≡ true → content.now ≢ counted_bytes ms) (λ m. content.now ≡ counted_bytes (items m.list)) }
 {
-    let Some(numbers) = read_counted(content) else {
-        return None;
-    };
-    Museums::new(numbers)
+    Museums::new(read_counted(content)?)
 }
 
 pub fn read_name(content: &[u8]) -> Option<Name>
     ensures { MatchOption result ((ls : List ℕ) → is_name ls ≡ true → content.now ≢ counted_bytes ls) (λ n. content.now ≡ counted_bytes (items n.letters)) }
 {
-    let Some(letters) = read_counted(content) else {
-        return None;
-    };
-    Name::new(letters)
+    Name::new(read_counted(content)?)
 }
 
 pub fn read_span(content: &[u8]) -> Option<Span>
     ensures { MatchOption result ((a b : ℕ) → a ≤ b → content.now ≢ span_bytes a b) (λ s. content.now ≡ span_bytes s.from s.to) }
 {
-    let Some((from, rest)) = read_two(content) else {
-        return None;
-    };
-    let Some((to, rest)) = read_two(rest) else {
-        return None;
-    };
+    let (from, rest) = numbers::read(content)?;
+    let (to, rest) = numbers::read(rest)?;
     if !rest.is_empty() {
         return None;
     }
@@ -67,9 +56,7 @@ pub fn read_persons(content: &[u8]) -> Option<u8>
 pub fn read_key(content: &[u8]) -> Option<KeyNumber>
     ensures { MatchOption result ((k : ℕ) → k ≤ 4095 → content.now ≢ two_bytes k) (λ k. content.now ≡ two_bytes k.number) }
 {
-    let Some((number, rest)) = read_two(content) else {
-        return None;
-    };
+    let (number, rest) = numbers::read(content)?;
     if !rest.is_empty() {
         return None;
     }

@@ -9,7 +9,6 @@ ghost use Rattle.wishes.specs.Format.{counted_bytes};
 
 use crate::Limit;
 use crate::kinds::{DAYS_KIND, ELSE_KIND, MINUTES_KIND, MUSEUMS_KIND, NAME_KIND, PERSONS_KIND};
-use numbers::put_two;
 use parts::{KeyNumber, Span};
 
 impl Limit {
@@ -59,8 +58,8 @@ fn write_span(kind: u8, span: Span, out: &mut [u8]) -> Option<usize>
         return None;
     }
     out[0] = kind;
-    put_two(&mut out[1..3], span.from)?;
-    put_two(&mut out[3..5], span.to)?;
+    numbers::put(&mut out[1..3], span.from)?;
+    numbers::put(&mut out[3..5], span.to)?;
     Some(5)
 }
 
@@ -82,6 +81,6 @@ pub fn write_else(key: KeyNumber, out: &mut [u8]) -> Option<usize>
         return None;
     }
     out[0] = ELSE_KIND;
-    put_two(&mut out[1..3], key.get())?;
+    numbers::put(&mut out[1..3], key.get())?;
     Some(3)
 }

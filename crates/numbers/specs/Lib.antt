@@ -1,3 +1,5 @@
 pub mod Bytes
 pub mod Places
 pub mod Lent
+pub mod Number
+pub mod Widths

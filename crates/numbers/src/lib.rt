@@ -1,69 +1,69 @@
-// Numbers of 16 and 32 bits at the front of lent slices, high byte first.
+// Numbers of a fixed width at the front of lent slices, high byte first.
 #![tactic(auto)]
 
-ghost use Rattle.numbers.specs.Bytes.{two, two_bytes, four_bytes};
+ghost use Rattle.numbers.specs.Bytes.{two_bytes, four_bytes};
 ghost use Rattle.numbers.specs.Lent.{ReadsFront, WritesFront};
-ghost use Rattle.std.specs.Prelude.{◌≡◌};
+ghost use Rattle.numbers.specs.Number.{NumberLaws};
+ghost use Rattle.numbers.specs.Widths.{two_bytes_laws, four_bytes_laws};
+ghost use Rattle.std.specs.Prelude.{◌≡◌, ℕ, List};
 
-/// The number that the first two bytes are, and the rest; `None` if there are fewer.
-pub fn read_two(bytes: &[u8]) -> Option<(u16, &[u8])>
-    ensures { ReadsFront 2 two_bytes bytes.now result }
-{
-    let [high, low, rest @ ..] = bytes else {
-        return None;
-    };
-    Some((join(*high, *low), rest))
+/// A number of `N` bytes.
+pub trait Number<const N: usize>: Copy {
+    // Its bytes, high byte first.
+    ghost bytes_of: { Self → List ℕ };
+
+    /// Its bytes.
+    fn to_bytes(self) -> [u8; N]
+        ensures { result ≡ bytes_of self };
+
+    /// The number that these bytes are.
+    fn from_bytes(bytes: &[u8; N]) -> Self
+        ensures { bytes_of result ≡ bytes.now };
+
+    // There are `N`, and numbers with the same bytes are the same.
+    ghost laws: { NumberLaws N bytes_of };
 }
 
-fn join(high: u8, low: u8) -> u16
-    ensures { result ≡ two high low }
-{
-    256 * u16::from(high) + u16::from(low)
-}
+impl Number<2> for u16 {
+    ghost bytes_of = { two_bytes };
 
-/// The number that the first four bytes are, and the rest; `None` if there are fewer.
-pub fn read_four(bytes: &[u8]) -> Option<(u32, &[u8])>
-    ensures { ReadsFront 4 four_bytes bytes.now result }
-{
-    let (high, rest) = read_two(bytes)?;
-    let (low, rest) = read_two(rest)?;
-    Some((u32::from(high) * 65536 + u32::from(low), rest))
-}
+    ghost laws = { two_bytes_laws };
 
-/// The two bytes of a number.
-pub fn two_bytes(number: u16) -> [u8; 2]
-    ensures { result ≡ two_bytes number }
-{
-    u16::to_be_bytes(number)
-}
-
-/// The four bytes of a number.
-pub fn four_bytes(number: u32) -> [u8; 4]
-    ensures { result ≡ four_bytes number }
-{
-    u32::to_be_bytes(number)
-}
-
-/// Writes the number to the first two bytes, and says how many that are; `None` if there are fewer.
-pub fn put_two(out: &mut [u8], number: u16) -> Option<usize>
-    ensures { WritesFront (two_bytes number) out.old out.new result }
-{
-    if out.len() < 2 {
-        return None;
+    fn to_bytes(self) -> [u8; 2] {
+        u16::to_be_bytes(self)
     }
-    out[0] = (number / 256) as u8;
-    out[1] = (number % 256) as u8;
-    Some(2)
+
+    fn from_bytes(bytes: &[u8; 2]) -> u16 {
+        u16::from_be_bytes(*bytes)
+    }
 }
 
-/// Writes the number to the first four bytes, and says how many that are; `None` if there are fewer.
-pub fn put_four(out: &mut [u8], number: u32) -> Option<usize>
-    ensures { WritesFront (four_bytes number) out.old out.new result }
-{
-    if out.len() < 4 {
-        return None;
+impl Number<4> for u32 {
+    ghost bytes_of = { four_bytes };
+
+    ghost laws = { four_bytes_laws };
+
+    fn to_bytes(self) -> [u8; 4] {
+        u32::to_be_bytes(self)
     }
-    put_two(&mut out[0..2], (number / 65536) as u16)?;
-    put_two(&mut out[2..4], (number % 65536) as u16)?;
-    Some(4)
+
+    fn from_bytes(bytes: &[u8; 4]) -> u32 {
+        u32::from_be_bytes(*bytes)
+    }
+}
+
+/// The number that the first bytes are, and the rest; `None` if there are too few.
+pub fn read<T: Number<N>, const N: usize>(bytes: &[u8]) -> Option<(T, &[u8])>
+    ensures { ReadsFront N T.bytes_of bytes.now result }
+{
+    let (first, rest) = bytes.split_first_chunk::<N>()?;
+    Some((T::from_bytes(first), rest))
+}
+
+/// Writes the number to the first bytes, and says how many they are. `None` if there are too few, and then nothing is written.
+pub fn put<T: Number<N>, const N: usize>(out: &mut [u8], number: T) -> Option<usize>
+    ensures { WritesFront (T.bytes_of number) out.old out.new result }
+{
+    *out.first_chunk_mut::<N>()? = number.to_bytes();
+    Some(N)
 }

@@ -1,8 +1,7 @@
 // Reading from the front of a slice.
 ghost use Rattle.std.specs.Prelude.{◌≡◌, ◌<◌, List, [], ◌∷◌, ◌++◌, length, MatchOption, ◌==◌};
-ghost use Rattle.numbers.specs.Bytes.{two_bytes, four_bytes};
 
-use numbers::{read_four, read_two};
+use numbers::Number;
 
 /// What is left to read. A method that finds too little answers `None`, and reads nothing.
 #[derive(Drop)]
@@ -28,29 +27,17 @@ impl<'a> Reader<'a> {
             ((length self.old.rest.now < 1) × (self.new.rest.now ≡ self.old.rest.now))
             (λ b. self.old.rest.now ≡ b ∷ self.new.rest.now) }
     {
-        let [byte, rest @ ..] = self.rest else {
-            return None;
-        };
+        let (byte, rest) = self.rest.split_first()?;
         self.rest = rest;
         Some(*byte)
     }
 
-    pub fn two(&mut self) -> Option<u16>
+    pub fn number<T: Number<N>, const N: usize>(&mut self) -> Option<T>
         ensures { MatchOption result
-            ((length self.old.rest.now < 2) × (self.new.rest.now ≡ self.old.rest.now))
-            (λ n. self.old.rest.now ≡ two_bytes n ++ self.new.rest.now) }
+            ((length self.old.rest.now < N) × (self.new.rest.now ≡ self.old.rest.now))
+            (λ n. self.old.rest.now ≡ T.bytes_of n ++ self.new.rest.now) }
     {
-        let (number, rest) = read_two(self.rest)?;
-        self.rest = rest;
-        Some(number)
-    }
-
-    pub fn four(&mut self) -> Option<u32>
-        ensures { MatchOption result
-            ((length self.old.rest.now < 4) × (self.new.rest.now ≡ self.old.rest.now))
-            (λ n. self.old.rest.now ≡ four_bytes n ++ self.new.rest.now) }
-    {
-        let (number, rest) = read_four(self.rest)?;
+        let (number, rest) = numbers::read(self.rest)?;
         self.rest = rest;
         Some(number)
     }
@@ -60,10 +47,7 @@ impl<'a> Reader<'a> {
             ((length self.old.rest.now < size) × (self.new.rest.now ≡ self.old.rest.now))
             (λ p. (length p.now ≡ size) × (self.old.rest.now ≡ p.now ++ self.new.rest.now)) }
     {
-        if self.rest.len() < size {
-            return None;
-        }
-        let (part, rest) = self.rest.split_at(size);
+        let (part, rest) = self.rest.split_at_checked(size)?;
         self.rest = rest;
         Some(part)
     }

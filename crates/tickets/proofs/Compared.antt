@@ -8,7 +8,7 @@ use Rattle.narrow.specs.Can.{same_ticket, extends}
 use Rattle.narrow.proofs.Rows.{contradiction}
 use Rattle.narrow.proofs.Can.{same_ticket_lem, extends_is}
 use Rattle.numbers.specs.Bytes.{four_bytes}
-use Rattle.numbers.proofs.Bytes.{four_bytes_same}
+use Rattle.numbers.specs.Widths.{four_bytes_same}
 use Rattle.rows.specs.Wire.{wire}
 use Rattle.rows.proofs.Wire.{wire_append, wire_begins, wire_same}
 

@@ -18,7 +18,7 @@ pub use bodies::{TicketBody, YesBody};
 pub use body::Body;
 use hmac::Mac;
 use lines::{Fault, KeyNumber, Place};
-use numbers::four_bytes;
+use numbers::Number;
 use rows::Lines;
 
 /// What a body says, and the MAC of its last line.
@@ -64,7 +64,7 @@ impl Ticket {
     {
         let mut lines = Lines::new(Place::Ticket);
         lines.push(first)?;
-        let start = house.mac(&four_bytes(number));
+        let start = house.mac(&number.to_bytes());
         let mac = start.mac(first);
         let body = TicketBody { number, lines };
         Ok(Ticket { body, mac })

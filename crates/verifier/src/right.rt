@@ -18,7 +18,7 @@ use crate::Refusal;
 use crate::macs::{Macs, work_out};
 use book::Book;
 use hmac::Mac;
-use numbers::four_bytes;
+use numbers::Number;
 use showing::Shown;
 use tickets::{TicketBody, TiedYes, YesBody};
 
@@ -53,7 +53,7 @@ pub fn check(book: &Book, shown: Shown) -> Result<Right, Refusal>
 fn ticket_macs(book: &Book, ticket: &TicketBody) -> Macs
     ensures { (d : Mac) → (slice_index_or result.each result.count d).bytes ≡ bytes_of (by_hmac (secrets book.now)) (ticket_mac (ticket_body ticket.now)) }
 {
-    let start = book.house().mac(&four_bytes(ticket.number));
+    let start = book.house().mac(&ticket.number.to_bytes());
     work_out(start, &ticket.lines)
 }
 

@@ -13,7 +13,6 @@ ghost use Rattle.wishes.specs.Views.{wish_view, raw_view, wish_read};
 pub mod laws;
 mod wish;
 
-use numbers::{put_two, read_two};
 use parts::Name;
 pub use wish::{RawWish, Wish};
 
@@ -30,18 +29,12 @@ pub fn read_wish(bytes: &[u8]) -> Option<(RawWish<'_>, &[u8])>
     if *kind != WISH_KIND {
         return None;
     }
-    let Some((day, rest)) = read_two(rest) else {
-        return None;
-    };
-    let Some((minute, rest)) = read_two(rest) else {
-        return None;
-    };
+    let (day, rest) = numbers::read(rest)?;
+    let (minute, rest) = numbers::read(rest)?;
     let [persons, count, rest @ ..] = rest else {
         return None;
     };
-    let Some((name, rest)) = cut(rest, usize::from(*count)) else {
-        return None;
-    };
+    let (name, rest) = rest.split_at_checked(usize::from(*count))?;
     let wish = RawWish {
         museum: *museum,
         day,
@@ -50,16 +43,6 @@ pub fn read_wish(bytes: &[u8]) -> Option<(RawWish<'_>, &[u8])>
         name,
     };
     Some((wish, rest))
-}
-
-// The first so many bytes, and the rest; `None` if there are fewer.
-fn cut(bytes: &[u8], count: usize) -> Option<(&[u8], &[u8])>
-    ensures { MatchOption result (length bytes.now < count) (λ p. (length p.0.now ≡ count) × (bytes.now ≡ p.0.now ++ p.1.now)) }
-{
-    if bytes.len() < count {
-        return None;
-    }
-    Some(bytes.split_at(count))
 }
 
 impl RawWish<'_> {
@@ -77,9 +60,7 @@ impl RawWish<'_> {
         if museum < 1 || museum > 200 || day < 1 || minute > 1439 || persons < 1 || persons > 200 {
             return None;
         }
-        let Some(name) = Name::new(name) else {
-            return None;
-        };
+        let name = Name::new(name)?;
         Some(Wish {
             museum,
             day,
@@ -110,8 +91,8 @@ impl Wish {
         }
         out[0] = WISH_KIND;
         out[1] = self.museum;
-        put_two(&mut out[2..4], self.day)?;
-        put_two(&mut out[4..6], self.minute)?;
+        numbers::put(&mut out[2..4], self.day)?;
+        numbers::put(&mut out[4..6], self.minute)?;
         out[6] = self.persons;
         out[7] = name.len() as u8;
         out[8..length].copy_from_slice(name);

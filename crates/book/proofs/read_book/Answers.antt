@@ -35,9 +35,9 @@ pub returns-in_err-key : goal.returns-in_err-key
 returns-in_err-key c =
     let p = err_from_is_err_and c.from_residual-in_err-key.result c.from_residual-in_err-key.ensures.1 in
     let kind = sym c.new-reader.ensures ∙ c.in_ok-read_kind.ensures in
-    let many = ap two_byte.read c.in-Some.ensures ∙ two_byte_join c.in-Some.count c.two.new.self.rest.now in
+    let many = ap two_byte.read c.in-Some.ensures ∙ two_byte_join c.in-Some.count c.number.new.self.rest.now in
     let none = ap (λ (b : BookView). b.keys) c.in_ok-book.ensures in
-    let run = ap (λ (ks : List KeyView). keys_from c.in-Some.count ks c.two.new.self.rest.now) (sym none) ∙ c.loop.invariant.1 in
+    let run = ap (λ (ks : List KeyView). keys_from c.in-Some.count ks c.number.new.self.rest.now) (sym none) ∙ c.loop.invariant.1 in
     let left = c.in-Some.count - c.loop.counter in
     let stop = keys_stop left (keys_view (vec_items c.loop.book.keys)) c.loop.reader.rest.now (omega (arith, c.loop-test.true)) _ c.in_err-key.ensures in
     rw (p.1, p.2) (not_read c.args.bytes.now _ (faulty_keys c.args.bytes.now _ kind _ _ c.in_ok-house.ensures _ _ many _ (run ∙ stop)))
@@ -60,9 +60,9 @@ loop-preserved c =
 pub returns-then-not-is_empty : goal.returns-then-not-is_empty
 returns-then-not-is_empty c =
     let kind = sym c.new-reader.ensures ∙ c.in_ok-read_kind.ensures in
-    let many = ap two_byte.read c.in-Some.ensures ∙ two_byte_join c.in-Some.count c.two.new.self.rest.now in
+    let many = ap two_byte.read c.in-Some.ensures ∙ two_byte_join c.in-Some.count c.number.new.self.rest.now in
     let none = ap (λ (b : BookView). b.keys) c.in_ok-book.ensures in
-    let run = ap (λ (ks : List KeyView). keys_from c.in-Some.count ks c.two.new.self.rest.now) (sym none) ∙ c.loop.invariant.1 in
+    let run = ap (λ (ks : List KeyView). keys_from c.in-Some.count ks c.number.new.self.rest.now) (sym none) ∙ c.loop.invariant.1 in
     let done = done_reading (c.in-Some.count - c.loop.counter) (keys_view (vec_items c.loop.book.keys)) c.loop.reader.rest.now (omega (arith, c.loop-test.false)) in
     more_left c.args.bytes.now _ _ (keys_read c.args.bytes.now _ kind _ _ c.in_ok-house.ensures _ _ many _ _ (run ∙ done))
     (λ e. eqb-false _ _ (sym c.if-not-is_empty.ensures) (ap length e))
@@ -70,9 +70,9 @@ returns-then-not-is_empty c =
 pub returns : goal.returns
 returns c =
     let kind = sym c.new-reader.ensures ∙ c.in_ok-read_kind.ensures in
-    let many = ap two_byte.read c.in-Some.ensures ∙ two_byte_join c.in-Some.count c.two.new.self.rest.now in
+    let many = ap two_byte.read c.in-Some.ensures ∙ two_byte_join c.in-Some.count c.number.new.self.rest.now in
     let none = ap (λ (b : BookView). b.keys) c.in_ok-book.ensures in
-    let run = ap (λ (ks : List KeyView). keys_from c.in-Some.count ks c.two.new.self.rest.now) (sym none) ∙ c.loop.invariant.1 in
+    let run = ap (λ (ks : List KeyView). keys_from c.in-Some.count ks c.number.new.self.rest.now) (sym none) ∙ c.loop.invariant.1 in
     let done = done_reading (c.in-Some.count - c.loop.counter) (keys_view (vec_items c.loop.book.keys)) c.loop.reader.rest.now (omega (arith, c.loop-test.false)) in
     let house = c.loop.invariant.0 ∙ ap (λ (b : BookView). b.house) c.in_ok-book.ensures in
     all_read c.args.bytes.now _ _ (keys_read c.args.bytes.now _ kind _ _ c.in_ok-house.ensures _ _ many _ _ (run ∙ done))

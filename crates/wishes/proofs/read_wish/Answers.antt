@@ -1,4 +1,4 @@
-use Rattle.std.proofs.Common.{◌≡◌, ℕ, ◌-◌, ◌<◌, List, length, get_or, take, drop, ap, arith, length-drop, rules}
+use Rattle.std.proofs.Common.{rules, ◌≡◌, ℕ, ◌-◌, ◌<◌, ◌≤◌, List, length, get_or, take, drop, ap, arith, length-drop, take-append-drop}
 use Rattle.std.proofs.lemmas.List.{take_rest}
 use Rattle.numbers.proofs.Bytes.{two_and_rest}
 use Rattle.wishes.proofs.Decoding.{wish_too_short, wish_other_kind, wish_cut, wish_whole}
@@ -17,39 +17,41 @@ returns-in_default c = let short : length c.args.bytes.now < 2 = search rules in
 pub returns-then-kind-ne-WISH_KIND : goal.returns-then-kind-ne-WISH_KIND
 returns-then-kind-ne-WISH_KIND c = wish_other_kind c.args.bytes.now c.if-kind-ne-WISH_KIND.true
 
-pub returns-in_default-read_two : goal.returns-in_default-read_two
-returns-in_default-read_two c =
-    wish_too_short c.args.bytes.now (omega (arith, c.in_default-read_two.ensures, after_two_length c.args.bytes.now))
+pub returns-in_err-day : goal.returns-in_err-day
+returns-in_err-day c =
+    let short : length (after_two c.args.bytes.now) < 2 = c.in_err-day.ensures in
+    rw c.from_residual.ensures (wish_too_short c.args.bytes.now (omega (arith, after_two_length c.args.bytes.now)))
 
-pub returns-in_default-read_two-2 : goal.returns-in_default-read_two-2
-returns-in_default-read_two-2 c =
-    wish_too_short c.args.bytes.now
-    (omega (arith, c.in_default-read_two-2.ensures, after_two_length c.args.bytes.now, ap length c.in-Some.ensures))
+pub returns-in_err-minute : goal.returns-in_err-minute
+returns-in_err-minute c =
+    let short : length c.in_ok-day.rest.now < 2 = c.in_err-minute.ensures in
+    rw c.from_residual-in_err-minute.ensures
+    (wish_too_short c.args.bytes.now (omega (arith, after_two_length c.args.bytes.now, ap length c.in_ok-day.ensures)))
 
 pub returns-in_default-rest : goal.returns-in_default-rest
 returns-in_default-rest c =
-    let short : length c.in-Some-read_two.rest.now < 2 = search rules in
     wish_too_short c.args.bytes.now
-    (omega (arith, after_two_length c.args.bytes.now, ap length c.in-Some.ensures, ap length c.in-Some-read_two.ensures))
+    (omega (arith, c.in_default-rest.len_below, after_two_length c.args.bytes.now, ap length c.in_ok-day.ensures, ap length c.in_ok-minute.ensures))
 
-pub returns-in_default-cut : goal.returns-in_default-cut
-returns-in_default-cut c =
+pub returns-in_err-name : goal.returns-in_err-name
+returns-in_err-name c =
     let bytes = c.args.bytes.now in
-    let last = c.in-Some-read_two.rest.now in
+    let last = c.in_ok-minute.rest.now in
     let front = two_and_rest bytes (search rules) in
-    let day = c.in-Some.ensures in
-    let minute = c.in-Some-read_two.ensures in
+    let day = c.in_ok-day.ensures in
+    let minute = c.in_ok-minute.ensures in
     let name = two_and_rest last (search rules) in
-    wish_cut bytes (after_two last) (get_or bytes 0 0) (get_or bytes 1 0) c.in-Some.day c.in-Some-read_two.minute (get_or last 0 0) c.from.result (cc) c.in_default-cut.ensures
+    rw c.from_residual-in_err-name.ensures
+    (wish_cut bytes (after_two last) (get_or bytes 0 0) (get_or bytes 1 0) c.in_ok-day.day c.in_ok-minute.minute (get_or last 0 0) c.from.result (cc) c.in_err-name.ensures.cases)
 
 pub returns : goal.returns
 returns c =
     let bytes = c.args.bytes.now in
-    let last = c.in-Some-read_two.rest.now in
+    let last = c.in_ok-minute.rest.now in
     let front = two_and_rest bytes (search rules) in
-    let day = c.in-Some.ensures in
-    let minute = c.in-Some-read_two.ensures in
+    let day = c.in_ok-day.ensures in
+    let minute = c.in_ok-minute.ensures in
     let name = two_and_rest last (search rules) in
-    let parts = c.in-Some-cut.ensures in
-    wish_whole bytes (after_two last) c.in-Some-cut.name.now c.in-Some-cut.rest.now (get_or bytes 0 0) (get_or bytes 1 0) c.in-Some.day c.in-Some-read_two.minute
-    (get_or last 0 0) c.from.result (cc) c.if-kind-ne-WISH_KIND.false parts.0 parts.1
+    let (room, front_is, rest_is, long, more) = c.in_ok-name.ensures.cases in
+    wish_whole bytes (after_two last) c.in_ok-name.name.now c.in_ok-name.rest.now (get_or bytes 0 0) (get_or bytes 1 0) c.in_ok-day.day c.in_ok-minute.minute
+    (get_or last 0 0) c.from.result (cc) c.if-kind-ne-WISH_KIND.false long (search (rules, take-append-drop))

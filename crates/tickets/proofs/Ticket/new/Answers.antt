@@ -37,7 +37,7 @@ returns c =
     let start = number_maced c.args.house.bytes number in
     let empty = ap (λ (ls : List Bytes). pushed c.new-lines.result.place ls c.args.first.now) (sym c.new-lines.ensures.lines) in
     let maced : c.mac-mac.result.bytes ≡ hmac_of (hmac_of c.args.house.bytes number) c.args.first.now =
-    c.mac-mac.ensures ∙ ap (λ (b : Bytes). hmac_of b c.args.first.now) (c.mac-start.ensures ∙ ap (hmac_of c.args.house.bytes) c.four_bytes.ensures) in
+    c.mac-mac.ensures ∙ ap (λ (b : Bytes). hmac_of b c.args.first.now) (c.mac-start.ensures ∙ ap (hmac_of c.args.house.bytes) c.to_bytes.ensures) in
     let made =
     added_on ticket_longer start c.args.first.now _ (ticket_grown _ c.args.first.now start.of c.new-lines.ensures.place _ (empty ∙ c.in_ok-push.ensures.added)) ∙
     ap (λ (b : Bytes). Ok (record { of = record { number = number; lines = rows c.push.new.self }; mac = b })) (sym maced) in

@@ -11,7 +11,7 @@ pub returns : goal.returns
 returns c =
     let count = c.work_out.ensures.count in
     let first : c.mac-start.result.bytes ≡ hmac_of c.args.book.now.house.bytes (four_bytes c.args.ticket.now.number) =
-    c.mac-start.ensures ∙ λ i. hmac_of (c.house.ensures i).bytes (c.four_bytes.ensures i) in
+    c.mac-start.ensures ∙ λ i. hmac_of (c.house.ensures i).bytes (c.to_bytes.ensures i) in
     λ d.
     c.work_out.ensures.each c.work_out.result.count d (omega arith) ∙
     (chained_all _ (rows c.args.ticket.now.lines) c.work_out.result.count (omega arith) ∙ ticket_chained (secrets c.args.book.now) (ticket_body c.args.ticket.now) _ first)

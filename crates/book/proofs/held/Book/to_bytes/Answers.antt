@@ -44,7 +44,7 @@ returns c =
     let many : c.len.result ≡ length (keys_view items) = c.len.ensures ∙ (self.keys.ok.0 ∙ sym (length-map items key_view)) in
     let head : vec_items c.extend_from_slice-2.new.self ≡ book_kind ∷ (self.house.bytes ++ two_bytes (length (keys_view items))) =
     laid_two _ _ _ _ _ _ c.new-out.ensures.items c.in_ok-push.ensures.items c.in_ok-extend_from_slice.ensures.items c.bytes.ensures
-    _ _ _ c.in_ok-extend_from_slice-2.ensures.items (c.two_bytes.ensures ∙ ap two_bytes many) in
+    _ _ _ c.in_ok-extend_from_slice-2.ensures.items (c.to_bytes.ensures ∙ ap two_bytes many) in
     let all : take c.loop-key.key-index c.as_slice-key-items.result.now ≡ items = take_all c.loop-key.key-index c.as_slice-key-items.result.now c.loop-key-test.false ∙ c.as_slice-key-items.ensures.value in
     c.loop-key.invariant ∙
     ((λ i. head i ++ write_several key.write (keys_view (all i))) ∙

@@ -22,7 +22,7 @@ returns-in_err-read_kind c =
 pub returns-in_err-number : goal.returns-in_err-number
 returns-in_err-number c =
     let p = err_from_is_err_and c.from_residual-in_err-number.result c.from_residual-in_err-number.ensures.1 in
-    let (short, same) = wanting _ _ _ _ _ c.in_err-number.ensures.value c.four.ensures in
+    let (short, same) = wanting _ _ _ _ _ c.in_err-number.ensures.value c.number.ensures in
     rw (p.1, p.2)
     (behind_on _ ticket_kind _ _ c.in_ok-read_kind.ensures ∙ (named_stop _ _ _ _ _ (both_first _ _ _ _ (fixed_short number_length _ short.0)) ∙ ap Err same))
 
@@ -30,15 +30,15 @@ pub returns-in_err-lines : goal.returns-in_err-lines
 unfolding row
 returns-in_err-lines c =
     let p = err_from_is_err_and c.from_residual-in_err-lines.result c.from_residual-in_err-lines.ensures.1 in
-    let four = MatchOption-at_some _ _ _ c.in_ok-number.ensures.ok_part c.four.ensures in
-    let number = ap (fixed number_length).read four ∙ fixed_join number_length (four_bytes c.in_ok-number.number) c.four.new.self.rest.now refl in
+    let four = MatchOption-at_some _ _ _ c.in_ok-number.ensures.ok_part c.number.ensures in
+    let number = ap (fixed number_length).read four ∙ fixed_join number_length (four_bytes c.in_ok-number.number) c.number.new.self.rest.now refl in
     rw (p.1, p.2) (behind_on _ ticket_kind _ _ c.in_ok-read_kind.ensures ∙ named_stop _ _ _ _ _ (both_second _ _ _ _ _ number _ (only_stop _ _ _ _ _ c.in_err-lines.ensures.read)))
 
 pub returns-then-len-eq0 : goal.returns-then-len-eq0
 unfolding row
 returns-then-len-eq0 c =
-    let four = MatchOption-at_some _ _ _ c.in_ok-number.ensures.ok_part c.four.ensures in
-    let number = ap (fixed number_length).read four ∙ fixed_join number_length (four_bytes c.in_ok-number.number) c.four.new.self.rest.now refl in
+    let four = MatchOption-at_some _ _ _ c.in_ok-number.ensures.ok_part c.number.ensures in
+    let number = ap (fixed number_length).read four ∙ fixed_join number_length (four_bytes c.in_ok-number.number) c.number.new.self.rest.now refl in
     behind_on _ ticket_kind _ _ c.in_ok-read_kind.ensures ∙
     named_stop _ _ _ _ _
     (both_second _ _ _ _ _ number _
@@ -50,8 +50,8 @@ invariant_of-result c = record { stands = ap on_ticket c.in_ok-lines.ensures.pla
 pub returns : goal.returns
 unfolding row
 returns c =
-    let four = MatchOption-at_some _ _ _ c.in_ok-number.ensures.ok_part c.four.ensures in
-    let number = ap (fixed number_length).read four ∙ fixed_join number_length (four_bytes c.in_ok-number.number) c.four.new.self.rest.now refl in
+    let four = MatchOption-at_some _ _ _ c.in_ok-number.ensures.ok_part c.number.ensures in
+    let number = ap (fixed number_length).read four ∙ fixed_join number_length (four_bytes c.in_ok-number.number) c.number.new.self.rest.now refl in
     behind_on _ ticket_kind _ _ c.in_ok-read_kind.ensures ∙
     named_on _ _ _ _ _ _
     (both_on _ _ _ _ _ number _ _

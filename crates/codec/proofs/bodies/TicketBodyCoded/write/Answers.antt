@@ -8,5 +8,5 @@ pub returns : goal.returns
 unfolding fixed row behind both only named
 returns c =
     let kind = c.in_ok-push.ensures.items in
-    let number = c.in_ok-extend_from_slice.ensures.items ∙ ap (λ (b : Bytes). vec_items c.push.new.self ++ b) c.four_bytes.ensures in
+    let number = c.in_ok-extend_from_slice.ensures.items ∙ ap (λ (b : Bytes). vec_items c.push.new.self ++ b) c.to_bytes.ensures in
     laid_kind _ _ _ _ _ _ _ _ kind number c.write_row.ensures

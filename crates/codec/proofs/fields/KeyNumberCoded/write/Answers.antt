@@ -7,4 +7,4 @@ use Rattle.codec.proofs.fields.KeyNumberCoded.write.Goals as goal
 
 pub returns : goal.returns
 unfolding two_byte only
-returns c = laid_last _ _ _ _ _ c.extend_from_slice.ensures.items (ap (λ (b : Bytes). vec_items c.args.out.now ++ b) (c.two_bytes.ensures ∙ ap two_bytes c.get.ensures))
+returns c = laid_last _ _ _ _ _ c.extend_from_slice.ensures.items (ap (λ (b : Bytes). vec_items c.args.out.now ++ b) (c.to_bytes.ensures ∙ ap two_bytes c.get.ensures))
