@@ -1,19 +1,17 @@
 -- What is judged is so. Assumes nothing.
-use Rattle.std.proofs.Common.{◌≡◌, ℕ, zero, suc, ◌<◌, Bool, true, false, cond, not, ◌&&◌, eqb, List, [], ◌∷◌, length, get_or, Some, None, Decides, Option, sym, refl, ap, ◌∙◌, subst, arith, MatchOption}
+use Rattle.std.proofs.Common.{◌≡◌, ℕ, zero, suc, ◌<◌, Bool, true, false, cond, not, ◌&&◌, eqb, ltb, List, [], ◌∷◌, length, get_or, Some, None, Ok, Err, Decides, Option, sym, refl, ap, ◌∙◌, subst, arith, MatchOption}
 use mathlib.Core.List.{Memᴰ}
-use Rattle.std.specs.Option.{option_map}
-use Rattle.std.proofs.lemmas.Bool.{and_parts, and_from, eqb-true, eq-eqb, not-true, not_from_false, false_from_ne_true}
+use Rattle.std.specs.List.{position, position_or_len}
+use Rattle.std.proofs.lemmas.Bool.{and_parts, and_from, eqb-true, eq-eqb, not-true, not_from_false, false_from_ne_true, true_from_ne_false, both_ways, cond-true, cond-false, ltb-true, ltb-false, lt-ltb, le-ltb}
+use Rattle.std.proofs.lemmas.List.Sums.{position_or_len_is, fails_before_first, passes_at_first}
 use Rattle.narrow.specs.Rows.{any, all}
 use Rattle.narrow.specs.Term.{Bytes}
 use Rattle.narrow.specs.Ticket.{Yes}
 use Rattle.narrow.specs.Policy.{Says, Limit, Else, Unreadable, Meaning, met, no_key, holds, serves, today}
 use Rattle.narrow.proofs.Rows.{contradiction, any_in, any_from, all_at, all_from}
-use Rattle.judging.specs.declared.Ask.TheVariants as ask
-use Rattle.judging.specs.declared.Judgement.{Judgement}
-use Rattle.judging.specs.declared.Judgement.TheVariants.{Through, LimitFails, NoYes, NoneHolds}
-use Rattle.judging.specs.Judged.{some_yes, some_holds, says_fails, fails, first_place, placed, judged}
+use Rattle.judging.specs.declared.Failing.TheVariants.{LimitFails, NoYes, NoneHolds}
+use Rattle.judging.specs.Judged.{some_yes, some_holds, limit_fails, else_fails, Judgement, placed, judged}
 use Rattle.judging.specs.Laws.{Holds, BadLimit, Lacking, Unheld, Least, Nowhere, Cause, JudgedRight}
-use Rattle.judging.proofs.Searching.{first_at, first_none}
 
 -- ---- what a test decides
 
@@ -26,10 +24,10 @@ yes_holds v y = (λ e m i. limit (v m) (all_at (λ l. met no_key (v l)) i e), λ
     limit Unreadable e = contradiction (cc)
 
 module _ (v : Meaning) (ys : List Yes) (l : Bytes) where
-  limit_decides : Decides (fails v ys ask.Limit l) (BadLimit v l)
+  limit_decides : Decides (limit_fails (v l)) (BadLimit v l)
   limit_decides = (λ e. told (v l) refl e, λ bad. so (v l) refl bad)
     where
-      told : (s : Says) → v l ≡ s → says_fails v ys ask.Limit s ≡ true → BadLimit v l
+      told : (s : Says) → v l ≡ s → limit_fails s ≡ true → BadLimit v l
       told (Limit b) q e = (λ r. let z : not true ≡ true = ap not (limit_same b (sym q ∙ r)) ∙ e in contradiction (cc), λ k r. contradiction (cc))
         where
           limit_same : (b : Bool) → Limit b ≡ Limit true → true ≡ b
@@ -37,21 +35,21 @@ module _ (v : Meaning) (ys : List Yes) (l : Bytes) where
       told (Else k) q e = contradiction (cc)
       told Unreadable q e = (λ r. contradiction (cc), λ k r. contradiction (cc))
 
-      so : (s : Says) → v l ≡ s → BadLimit v l → says_fails v ys ask.Limit s ≡ true
+      so : (s : Says) → v l ≡ s → BadLimit v l → limit_fails s ≡ true
       so (Limit b) q bad = not_from_false b (false_from_ne_true b (λ h. bad.0 (q ∙ ap Limit h)))
       so (Else k) q bad = absurd (bad.1 k q)
       so Unreadable q bad = refl
 
-  lacking_decides : Decides (fails v ys ask.SomeYes l) (Lacking v ys l)
+  lacking_decides : Decides (else_fails (some_yes ys) (v l)) (Lacking v ys l)
   lacking_decides = (λ e. told (v l) refl e, λ bad. so (v l) refl bad)
     where
-      told : (s : Says) → v l ≡ s → says_fails v ys ask.SomeYes s ≡ true → Lacking v ys l
+      told : (s : Says) → v l ≡ s → else_fails (some_yes ys) s ≡ true → Lacking v ys l
       told (Limit b) q e = contradiction (cc)
       told (Else k) q e =
           (k, q, λ y i same. let z : some_yes ys k ≡ true = any_from (λ y. eqb y.key k) i (eq-eqb y.key k same) in let w : true ≡ false = sym z ∙ not-true (some_yes ys k) e in contradiction (cc))
       told Unreadable q e = contradiction (cc)
 
-      so : (s : Says) → v l ≡ s → Lacking v ys l → says_fails v ys ask.SomeYes s ≡ true
+      so : (s : Says) → v l ≡ s → Lacking v ys l → else_fails (some_yes ys) s ≡ true
       so (Limit b) q (k, r, bad) = contradiction (cc)
       so (Else j) q (k, r, bad) =
           not_from_false (some_yes ys j) (false_from_ne_true (some_yes ys j) (λ e. let (y, i, same) = any_in (λ y. eqb y.key j) ys e in bad y i (eqb-true y.key j same ∙ key_same j k (sym q ∙ r))))
@@ -60,16 +58,16 @@ module _ (v : Meaning) (ys : List Yes) (l : Bytes) where
           key_same j k e = cc
       so Unreadable q (k, r, bad) = contradiction (cc)
 
-  unheld_decides : Decides (fails v ys ask.Holding l) (Unheld v ys l)
+  unheld_decides : Decides (else_fails (some_holds v ys) (v l)) (Unheld v ys l)
   unheld_decides = (λ e. told (v l) refl e, λ bad. so (v l) refl bad)
     where
-      told : (s : Says) → v l ≡ s → says_fails v ys ask.Holding s ≡ true → Unheld v ys l
+      told : (s : Says) → v l ≡ s → else_fails (some_holds v ys) s ≡ true → Unheld v ys l
       told (Limit b) q e = contradiction (cc)
       told (Else k) q e =
           (k, q, λ y i same h. let z : some_holds v ys k ≡ true = any_from (λ y. eqb y.key k && holds v y) i (and_from _ _ (eq-eqb y.key k same) ((yes_holds v y).1 h)) in let w : true ≡ false = sym z ∙ not-true (some_holds v ys k) e in contradiction (cc))
       told Unreadable q e = contradiction (cc)
 
-      so : (s : Says) → v l ≡ s → Unheld v ys l → says_fails v ys ask.Holding s ≡ true
+      so : (s : Says) → v l ≡ s → Unheld v ys l → else_fails (some_holds v ys) s ≡ true
       so (Limit b) q (k, r, bad) = contradiction (cc)
       so (Else j) q (k, r, bad) =
           not_from_false (some_holds v ys j)
@@ -82,49 +80,41 @@ module _ (v : Meaning) (ys : List Yes) (l : Bytes) where
           key_same j k e = cc
       so Unreadable q (k, r, bad) = contradiction (cc)
 
--- ---- the least place of a test is the least place of what it decides
+-- ---- the first place of a test is the least place of what it decides
 
 module _ (f : Bytes → Bool) (P : Bytes → Type 0) (d : (l : Bytes) → Decides (f l) (P l)) (ls : List Bytes) where
   no_pass : (l : Bytes) → (P l → ⊥) → f l ≡ false
-  no_pass l ne = by (f l) refl
-    where
-      by : (b : Bool) → f l ≡ b → b ≡ false
-      by true e = absurd (ne ((d l).0 e))
-      by false e = refl
+  no_pass l ne = false_from_ne_true (f l) (λ e. ne ((d l).0 e))
 
   pass_not : (l : Bytes) → f l ≡ false → P l → ⊥
-  pass_not l e h = let z : true ≡ false = sym ((d l).1 h) ∙ e in contradiction (cc)
+  pass_not l e h = both_ways (f l) e ((d l).1 h)
 
-  pub place_from : (i : ℕ) → Least P ls i → first_place f ls ≡ Some i
-  place_from i least = first_at f ls i [] least.within (λ j h. no_pass (get_or ls j []) (least.before j h)) ((d (get_or ls i [])).1 least.here)
+  place_from : (i : ℕ) → Least P ls i → position f ls ≡ Some i
+  place_from i least =
+      let here : position_or_len f ls ≡ i =
+      position_or_len_is f ls i [] (omega (arith, least.within)) (λ j h. no_pass (get_or ls j []) (least.before j h)) (λ h. (d (get_or ls i [])).1 least.here) in
+      rw here (cond-true (ltb i (length ls)) _ _ (lt-ltb i (length ls) least.within))
 
-  pub nowhere_from : Nowhere P ls → first_place f ls ≡ None
-  nowhere_from none = first_none f ls [] (λ j h. no_pass (get_or ls j []) (none j h))
+  nowhere_from : Nowhere P ls → position f ls ≡ None
+  nowhere_from none =
+      let all : position_or_len f ls ≡ length ls = position_or_len_is f ls (length ls) [] (omega arith) (λ j h. no_pass (get_or ls j []) (none j h)) (λ h. absurd (omega arith)) in
+      rw all (cond-false (ltb (length ls) (length ls)) _ _ (le-ltb (length ls) (length ls) (omega arith)))
 
--- the search tells, for every row
-search_tells : (f : Bytes → Bool) (P : Bytes → Type 0) (d : (l : Bytes) → Decides (f l) (P l)) (ls : List Bytes) → MatchOption (first_place f ls) (Nowhere P ls) (Least P ls)
-unfolding first_place
-search_tells f P d [] = λ i h q. absurd (omega arith)
-search_tells f P d (l ∷ ls) = step (f l) refl (first_place f ls) (search_tells f P d ls)
-  where
-    nowhere : (f l ≡ false) → Nowhere P ls → Nowhere P (l ∷ ls)
-    nowhere e none zero h q = pass_not f P d ls l e q
-    nowhere e none (suc i) h q = none i (omega arith) q
-
-    earlier : (i : ℕ) → f l ≡ false → Least P ls i → (j : ℕ) → j < suc i → P (get_or (l ∷ ls) j []) → ⊥
-    earlier i e least zero h q = pass_not f P d ls l e q
-    earlier i e least (suc j) h q = least.before j (omega arith) q
-
-    step : (b : Bool) → f l ≡ b → (r : Option ℕ) → MatchOption r (Nowhere P ls) (Least P ls) → MatchOption (cond b (Some 0) (option_map suc r)) (Nowhere P (l ∷ ls)) (Least P (l ∷ ls))
-    step true e r t = record { within = omega arith; here = (d l).0 e; before = λ j h q. absurd (omega arith) }
-    step false e None t = nowhere e t
-    step false e (Some i) t = record { within = omega (arith, t.within); here = t.here; before = earlier i e t }
+  -- the search tells, for every row
+  search_tells : MatchOption (position f ls) (Nowhere P ls) (Least P ls)
+  search_tells = by (ltb (position_or_len f ls) (length ls)) refl
+    where
+      by : (b : Bool) → ltb (position_or_len f ls) (length ls) ≡ b → MatchOption (cond b (Some (position_or_len f ls)) None) (Nowhere P ls) (Least P ls)
+      by true e =
+          let within = ltb-true (position_or_len f ls) (length ls) e in
+          record { within = within; here = (d (get_or ls (position_or_len f ls) [])).0 (passes_at_first f ls [] within); before = λ j h. pass_not (get_or ls j []) (fails_before_first f ls j [] h) }
+      by false e = λ i h. let past : i < position_or_len f ls = omega (arith, ltb-false (position_or_len f ls) (length ls) e) in pass_not (get_or ls i []) (fails_before_first f ls i [] past)
 
 -- ---- the whole
 
 module _ (v : Meaning) (ls : List Bytes) (ys : List Yes) where
   cause_of : (a b c : Option ℕ) → MatchOption a (Nowhere (BadLimit v) ls) (Least (BadLimit v) ls) → MatchOption b (Nowhere (Lacking v ys) ls) (Least (Lacking v ys) ls) →
-      MatchOption c (Nowhere (Unheld v ys) ls) (Least (Unheld v ys) ls) → Cause v ls ys (placed LimitFails a (placed NoYes b (placed NoneHolds c Through)))
+      MatchOption c (Nowhere (Unheld v ys) ls) (Least (Unheld v ys) ls) → Cause v ls ys (placed LimitFails a (placed NoYes b (placed NoneHolds c (Ok tt))))
   cause_of (Some i) b c x y z = x
   cause_of None (Some i) c x y z = (x, y)
   cause_of None None (Some i) x y z = (x, y, z)
@@ -135,17 +125,17 @@ module _ (v : Meaning) (ls : List Bytes) (ys : List Yes) where
   cause =
       cause_of _ _ _ (search_tells _ _ (limit_decides v ys) ls) (search_tells _ _ (lacking_decides v ys) ls) (search_tells _ _ (unheld_decides v ys) ls)
 
-  pub places : (a b c : Option ℕ) → first_place (fails v ys ask.Limit) ls ≡ a → first_place (fails v ys ask.SomeYes) ls ≡ b → first_place (fails v ys ask.Holding) ls ≡ c →
-      judged v ls ys ≡ placed LimitFails a (placed NoYes b (placed NoneHolds c Through))
+  pub places : (a b c : Option ℕ) → position (λ l. limit_fails (v l)) ls ≡ a → position (λ l. else_fails (some_yes ys) (v l)) ls ≡ b → position (λ l. else_fails (some_holds v ys) (v l)) ls ≡ c →
+      judged v ls ys ≡ placed LimitFails a (placed NoYes b (placed NoneHolds c (Ok tt)))
   unfolding judged
-  places a b c x y z = λ i. placed LimitFails (x i) (placed NoYes (y i) (placed NoneHolds (z i) Through))
+  places a b c x y z = λ i. placed LimitFails (x i) (placed NoYes (y i) (placed NoneHolds (z i) (Ok tt)))
 
   exactly : (j : Judgement) → Cause v ls ys j → judged v ls ys ≡ j
-  exactly (LimitFails i) least = places (Some i) _ _ (place_from _ _ (limit_decides v ys) ls i least) refl refl
-  exactly (NoYes i) (none, least) = places None (Some i) _ (nowhere_from _ _ (limit_decides v ys) ls none) (place_from _ _ (lacking_decides v ys) ls i least) refl
-  exactly (NoneHolds i) (none, some, least) =
+  exactly (Err (LimitFails i)) least = places (Some i) _ _ (place_from _ _ (limit_decides v ys) ls i least) refl refl
+  exactly (Err (NoYes i)) (none, least) = places None (Some i) _ (nowhere_from _ _ (limit_decides v ys) ls none) (place_from _ _ (lacking_decides v ys) ls i least) refl
+  exactly (Err (NoneHolds i)) (none, some, least) =
       places None None (Some i) (nowhere_from _ _ (limit_decides v ys) ls none) (nowhere_from _ _ (lacking_decides v ys) ls some) (place_from _ _ (unheld_decides v ys) ls i least)
-  exactly Through (none, some, held) =
+  exactly (Ok _) (none, some, held) =
       places None None None (nowhere_from _ _ (limit_decides v ys) ls none) (nowhere_from _ _ (lacking_decides v ys) ls some) (nowhere_from _ _ (unheld_decides v ys) ls held)
 
   told : (j : Judgement) → judged v ls ys ≡ j → Cause v ls ys j
@@ -155,13 +145,9 @@ module _ (v : Meaning) (ls : List Bytes) (ys : List Yes) where
   line_met : (l : Bytes) → (BadLimit v l → ⊥) → (Unheld v ys l → ⊥) → met (λ k. any (serves (today v) k) ys) (v l) ≡ true
   line_met l good held = by (v l) refl
     where
-      sure : (b : Bool) → (b ≡ false → ⊥) → b ≡ true
-      sure true ne = refl
-      sure false ne = absurd (ne refl)
-
       by : (s : Says) → v l ≡ s → met (λ k. any (serves (today v) k) ys) s ≡ true
-      by (Limit b) e = sure b (λ q. good (λ r. contradiction (cc), λ k r. contradiction (cc)))
-      by (Else k) e = sure (some_holds v ys k) (λ q. held ((unheld_decides v ys l).0 (ap (says_fails v ys ask.Holding) e ∙ ap not q)))
+      by (Limit b) e = true_from_ne_false b (λ q. good (λ r. contradiction (cc), λ k r. contradiction (cc)))
+      by (Else k) e = true_from_ne_false (some_holds v ys k) (λ q. held ((unheld_decides v ys l).0 (ap (else_fails (some_holds v ys)) e ∙ ap not q)))
       by Unreadable e = absurd (good (λ r. contradiction (cc), λ k r. contradiction (cc)))
 
   -- and the other way round
@@ -197,10 +183,10 @@ judged_right v ls ys =
     record {
       told = told v ls ys;
       exactly = exactly v ls ys;
-      met = λ e. let (none, some, held) = told v ls ys Through e in all_places _ ls (λ i h. line_met v ls ys (get_or ls i []) (none i h) (held i h));
+      met = λ e. let (none, some, held) = told v ls ys (Ok tt) e in all_places _ ls (λ i h. line_met v ls ys (get_or ls i []) (none i h) (held i h));
       each_met =
           λ e.
-          exactly v ls ys Through (
+          exactly v ls ys (Ok tt) (
             λ i h. (met_good v ls ys (get_or ls i []) (all_place _ ls i e h)).0,
             λ i h. (met_good v ls ys (get_or ls i []) (all_place _ ls i e h)).1,
             λ i h. (met_good v ls ys (get_or ls i []) (all_place _ ls i e h)).2,

@@ -1,9 +1,10 @@
 -- Tests and searches over rows, by membership; each way one lemma. Assumes nothing.
-use Rattle.std.proofs.Common.{◌≡◌, ℕ, ◌≤◌, Bool, true, false, cond, ◌⊎◌, List, [], ◌∷◌, ◌++◌, map, length, is_some, Some, None, Decides, filter, Option, sym, refl, ap, ◌∙◌, inl, inr, ⊎_elim, arith, length-append}
+use Rattle.std.proofs.Common.{◌≡◌, ℕ, ◌≤◌, Bool, true, false, cond, ◌&&◌, ◌||◌, ◌⊎◌, List, [], ◌∷◌, ◌++◌, map, length, is_some, Some, None, Decides, filter, Option, sym, refl, ap, ◌∙◌, inl, inr, ⊎_elim, arith, length-append}
 use mathlib.Core.List.Memᴰ
 use mathlib.Core.List.{Memᴰ, cons-eq-cons}
 use Rattle.std.specs.Option.{option_or, option_to_list}
 use Rattle.std.specs.Bool.{then_some}
+use Rattle.std.specs.List.{list_any, list_all}
 use Rattle.std.proofs.lemmas.Bool.{and_parts, and_from}
 use Rattle.narrow.proofs.RowKinds
 use Rattle.narrow.proofs.RowKinds.{IsAny, IsAll, IsJoin}
@@ -37,6 +38,22 @@ all_at f = RowKinds.all_in (all_is f)
 
 pub all_from : {A : Type 0} (f : A → Bool) (xs : List A) → ((x : A) → Memᴰ x xs → f x ≡ true) → all f xs ≡ true
 all_from f = RowKinds.in_all (all_is f)
+
+-- a test of what the elements stand for, as a chain over the elements makes it
+pub any_map : {A B : Type 0} (g : A → B) (f : B → Bool) (xs : List A) → any f (map g xs) ≡ list_any (λ x. f (g x)) xs
+unfolding any
+any_map g f [] = refl
+any_map g f (x ∷ xs) = ap (λ (b : Bool). f (g x) || b) (any_map g f xs)
+
+pub all_map : {A B : Type 0} (g : A → B) (f : B → Bool) (xs : List A) → all f (map g xs) ≡ list_all (λ x. f (g x)) xs
+unfolding all
+all_map g f [] = refl
+all_map g f (x ∷ xs) = ap (λ (b : Bool). f (g x) && b) (all_map g f xs)
+
+pub all_list : {A : Type 0} (f : A → Bool) (xs : List A) → all f xs ≡ list_all f xs
+unfolding all
+all_list f [] = refl
+all_list f (x ∷ xs) = ap (λ (b : Bool). f x && b) (all_list f xs)
 
 -- what the first of two options that is there gives
 pub or_other_cases : {A : Type 0} (a b : Option A) (y : A) → option_or a b ≡ Some y → (a ≡ Some y) ⊎ (b ≡ Some y)

@@ -33,7 +33,7 @@ pub struct Span {
 }
 
 /// The number of a key of yeses.
-#[derive(Clone, Copy)]
+#[derive(Clone, Copy, PartialEq, Eq, Hash)]
 pub struct KeyNumber {
     number: u16,
     ghost known: { number ≤ 4095 },

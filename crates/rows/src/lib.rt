@@ -2,11 +2,13 @@
 #![tactic(auto)]
 
 mod adding;
+mod each;
 mod reader;
 mod reading;
 mod row;
 mod same;
 
 pub use adding::most_lines;
+pub use each::Each;
 pub use reader::Reader;
 pub use row::Lines;

@@ -1,8 +1,9 @@
 -- Chains of MACs, as the code works them out and as terms have them. Assumes nothing.
-use Rattle.std.proofs.Common.{◌≡◌, ℕ, zero, suc, ◌+◌, ◌<◌, ◌≤◌, Bool, ◌≢◌, List, [], ◌∷◌, ◌++◌, map, length, get_or, take, set, replicate, Some, Decides, Option, unwrap_or, sym, refl, ap, ◌∙◌, ⊎_elim, arith}
+use Rattle.std.proofs.Common.{◌≡◌, ℕ, zero, suc, ◌+◌, ◌<◌, ◌≤◌, Bool, true, ◌&&◌, ◌≢◌, List, [], ◌∷◌, ◌++◌, map, length, get_or, take, drop, set, replicate, is_some, Some, Decides, Option, unwrap_or, sym, refl, ap, ◌∙◌, ⊎_elim, arith, length-drop}
 use Rattle.std.proofs.lemmas.Bool.Decides.{same_from_decides}
-use Rattle.std.proofs.lemmas.List.{take_more, take_all, get_or-set_same, get_or-set_other}
-use Rattle.std.proofs.lemmas.Bool.{cases_lt}
+use Rattle.std.proofs.lemmas.List.{take_more, take_all, drop_more, get_or-set_same, get_or-set_other}
+use Rattle.std.proofs.lemmas.Bool.{cases_lt, and_parts}
+use Rattle.narrow.specs.Rows.{all}
 use Rattle.narrow.specs.Term.{Bytes, mac_length, Term, Secret, House, KeyOf, macs}
 use Rattle.narrow.specs.Ticket.{Ticket, Yes, ticket_mac, yes_mac, yes_message}
 use Rattle.narrow.specs.Can.{same_bytes}
@@ -16,8 +17,8 @@ use Rattle.tickets.specs.declared.TiedYes.{TiedYes}
 use Rattle.tickets.specs.Views.{yes_body, tied_view}
 use Rattle.judging.specs.Views.{bodies}
 use Rattle.verifier.specs.Chain.{chained}
-use Rattle.verifier.specs.Stages.{tied_to}
-use Rattle.verifier.specs.Verdict.{right_ties, untied}
+use Rattle.verifier.specs.Stages.{tie_is, known_tie, tied_to}
+use Rattle.verifier.specs.Verdict.{known_keys, right_ties, untied}
 
 pub chained_push : (k : Bytes) (ms : List Bytes) (m : Bytes) → chained k (ms ++ m ∷ []) ≡ hmac_of (chained k ms) m
 unfolding chained
@@ -46,6 +47,17 @@ pub term_chained : (s : Secrets) (t : Term) (ms : List Bytes) → bytes_of (by_h
 unfolding bytes_of macs chained
 term_chained s t [] = refl
 term_chained s t (m ∷ ms) = term_chained s _ ms
+
+-- the next line of a row, of which so many were passed over
+module _ (ls rest : List Bytes) (i : ℕ) (l : Bytes) (left : drop i ls ≡ l ∷ rest) where
+  pub line_inside : i < length ls
+  line_inside = omega (arith, length-drop i ls, ap length left)
+
+  pub line_here : l ≡ get_or ls i []
+  line_here = ap (λ (xs : List Bytes). get_or xs 0 []) (sym left ∙ drop_more ls i [] line_inside)
+
+  pub lines_after : rest ≡ drop (i + 1) ls
+  lines_after = ap (drop 1) (sym left ∙ drop_more ls i [] line_inside)
 
 -- the row of MACs that is worked out: where it starts, and one more
 pub starts : (each : List Mac) (k : Bytes) (ls : List Bytes) (j : ℕ) (d : Mac) → (get_or each 0 d).bytes ≡ k → j ≤ 0 → (get_or each j d).bytes ≡ chained k (take j ls)
@@ -83,6 +95,14 @@ module _ (s : Secrets) where
 pub tied_terms : (s : Secrets) (t : Ticket) (mac : Bytes) (ys : List Tied) → mac ≡ bytes_of (by_hmac s) (ticket_mac t) → tied_to s mac ys ≡ right_ties s t ys
 unfolding bytes_of
 tied_terms s t mac ys e = ap (λ (b : Bytes). tied_to s b ys) e
+
+-- where all keys are known, the ties alone are left to be right
+pub known_tied : (s : Secrets) (mac : Bytes) (ys : List Tied) → known_keys s ys ≡ true → all (known_tie s mac) ys ≡ tied_to s mac ys
+unfolding all
+known_tied s mac [] known = refl
+known_tied s mac (y ∷ ys) known =
+    let (here, below) = and_parts (is_some (s.key y.of.key)) (known_keys s ys) known in
+    λ i. (here i && tie_is s mac y) && known_tied s mac ys below i
 
 -- a test that decides an equation of byte strings
 pub same_decides : (r : Bool) (a b c : Bytes) → Decides r (a ≡ b) → a ≡ c → r ≡ same_bytes b c

@@ -16,17 +16,13 @@ use Rattle.rows.specs.Standing.{stands}
 use Rattle.tickets.specs.Making.{Tied}
 use Rattle.tickets.specs.Made.{Secrets, by_hmac}
 use Rattle.codec.specs.Format.{fixed, row, wish, behind, both, only, named, counted}
-use Rattle.judging.specs.declared.Judgement.{Judgement}
-use Rattle.judging.specs.declared.Judgement.TheVariants as judgement
-use Rattle.judging.specs.Judged.{judged}
+use Rattle.judging.specs.Judged.{Judgement, judged}
 use Rattle.judging.specs.Laws.{Cause}
 use Rattle.judging.proofs.Causes.{judged_right}
 use Rattle.showing.specs.Showing.{ShownView, shown, shown_of}
 use Rattle.showing.proofs.Shows.{shown_exact}
-use Rattle.verifier.specs.declared.Refusal.TheVariants.{Unread, WrongMac, UnknownKey, WrongTie, LimitFails, NoYes, NoneHolds}
-use Rattle.verifier.specs.declared.Verdict.{Verdict}
-use Rattle.verifier.specs.declared.Verdict.TheVariants.{Through, Refused}
-use Rattle.verifier.specs.Verdict.{right_mac, known_keys, right_ties, untied, of_lines, verdict_on, on_read, verdict}
+use Rattle.verifier.specs.declared.Refusal.TheVariants.{Unread, WrongMac, UnknownKey, WrongTie, Unmet}
+use Rattle.verifier.specs.Verdict.{Verdict, right_mac, known_keys, right_ties, untied, of_lines, verdict_on, on_read, verdict}
 use Rattle.verifier.specs.Laws.{MacRight, AllKnown, AllTied, AllRight, ThroughExactly, Why, VerdictExactly}
 
 -- a test of a whole row decides what it decides of each
@@ -68,23 +64,23 @@ module _ (s : Secrets) (bs : Bytes) where
   unfolding verdict
   read_on v e = ap (on_read s) e
 
-  pub not_read : (f : Fault) → shown_of bs ≡ Err f → verdict s bs ≡ Refused (Unread f)
+  pub not_read : (f : Fault) → shown_of bs ≡ Err f → verdict s bs ≡ Err (Unread f)
   unfolding verdict
   not_read f e = ap (on_read s) e
 
   module _ (v : ShownView) (e : shown_of bs ≡ Ok v) where
-    wrong_mac : (MacRight s v → ⊥) → verdict s bs ≡ Refused WrongMac
+    wrong_mac : (MacRight s v → ⊥) → verdict s bs ≡ Err WrongMac
     unfolding verdict_on
     wrong_mac ne = read_on v e ∙ cond-false (right_mac s v.ticket) _ _ (decides_not _ (mac_decides s v) ne)
 
     module _ (m : MacRight s v) where
-      unknown_key : (AllKnown s v → ⊥) → verdict s bs ≡ Refused UnknownKey
+      unknown_key : (AllKnown s v → ⊥) → verdict s bs ≡ Err UnknownKey
       unfolding verdict_on
       unknown_key ne =
           read_on v e ∙ (cond-true (right_mac s v.ticket) _ _ ((mac_decides s v).1 m) ∙ cond-false (known_keys s v.yeses) _ _ (decides_not _ (known_decides s v) ne))
 
       module _ (k : AllKnown s v) where
-        wrong_tie : (AllTied s v → ⊥) → verdict s bs ≡ Refused WrongTie
+        wrong_tie : (AllTied s v → ⊥) → verdict s bs ≡ Err WrongTie
         unfolding verdict_on
         wrong_tie ne =
             read_on v e ∙
@@ -103,28 +99,24 @@ module _ (s : Secrets) (bs : Bytes) where
   -- the condition gives the answer
   gives : (a : Verdict) → Why s bs a → verdict s bs ≡ a
   unfolding lets
-  gives Through w =
+  gives (Ok _) w =
       let v = w.view in
       let judges = judged_right (says v.asked) v.ticket.of.lines (untied v.yeses) in
       let met = (and_parts (leb (length v.ticket.of.lines) most_lines) (all_met (says v.asked) (λ k. any (serves (today (says v.asked)) k) (untied v.yeses)) v.ticket.of.lines) w.met).1 in
-      by_lines_lem v w.read w.right judgement.Through (judges.told judgement.Through (judges.each_met met))
-  gives (Refused (Unread f)) e = not_read f e
-  gives (Refused WrongMac) (v, e, ne) = wrong_mac v e ne
-  gives (Refused UnknownKey) (v, e, m, ne) = unknown_key v e m ne
-  gives (Refused WrongTie) (v, e, m, k, ne) = wrong_tie v e m k ne
-  gives (Refused (LimitFails i)) (v, e, r, c) = by_lines_lem v e r (judgement.LimitFails i) c
-  gives (Refused (NoYes i)) (v, e, r, c) = by_lines_lem v e r (judgement.NoYes i) c
-  gives (Refused (NoneHolds i)) (v, e, r, c) = by_lines_lem v e r (judgement.NoneHolds i) c
+      by_lines_lem v w.read w.right (Ok tt) (judges.told (Ok tt) (judges.each_met met))
+  gives (Err (Unread f)) e = not_read f e
+  gives (Err WrongMac) (v, e, ne) = wrong_mac v e ne
+  gives (Err UnknownKey) (v, e, m, ne) = unknown_key v e m ne
+  gives (Err WrongTie) (v, e, m, k, ne) = wrong_tie v e m k ne
+  gives (Err (Unmet f)) (v, e, r, c) = by_lines_lem v e r (Err f) c
 
   -- what the lines come to is the condition of their answer
   of_lines_lem : (v : ShownView) → shown_of bs ≡ Ok v → AllRight s v → (j : Judgement) → judged (says v.asked) v.ticket.of.lines (untied v.yeses) ≡ j → Why s bs (of_lines j)
   unfolding lets
-  of_lines_lem v e r judgement.Through q =
+  of_lines_lem v e r (Ok _) q =
       let judges = judged_right (says v.asked) v.ticket.of.lines (untied v.yeses) in
       record { view = v; read = e; right = r; met = and_from _ _ (few_lines v (shown_exact.only bs v e).0) (judges.met q) }
-  of_lines_lem v e r (judgement.LimitFails i) q = (v, e, r, (judged_right (says v.asked) v.ticket.of.lines (untied v.yeses)).told (judgement.LimitFails i) q)
-  of_lines_lem v e r (judgement.NoYes i) q = (v, e, r, (judged_right (says v.asked) v.ticket.of.lines (untied v.yeses)).told (judgement.NoYes i) q)
-  of_lines_lem v e r (judgement.NoneHolds i) q = (v, e, r, (judged_right (says v.asked) v.ticket.of.lines (untied v.yeses)).told (judgement.NoneHolds i) q)
+  of_lines_lem v e r (Err f) q = (v, e, r, (judged_right (says v.asked) v.ticket.of.lines (untied v.yeses)).told (Err f) q)
 
   why : Why s bs (verdict s bs)
   why = read (shown_of bs) refl
@@ -154,4 +146,4 @@ pub verdict_exactly : VerdictExactly
 verdict_exactly s bs a = (λ e. subst (Why s bs) e (why s bs), gives s bs a)
 
 pub through_exactly : ThroughExactly
-through_exactly s bs = verdict_exactly s bs Through
+through_exactly s bs = verdict_exactly s bs (Ok tt)

@@ -9,13 +9,10 @@ use Rattle.parts.specs.Limits.{WishView}
 use Rattle.lines.specs.Meaning.{says}
 use Rattle.tickets.specs.Making.{Ticket, Yes, Tied, line_added, tied}
 use Rattle.tickets.specs.Made.{Secrets, by_hmac, Right, ATicket, AYes}
-use Rattle.judging.specs.declared.Judgement.TheVariants as judgement
 use Rattle.judging.specs.Laws.{Cause}
 use Rattle.showing.specs.Showing.{ShownView, shown, shown_of}
-use Rattle.verifier.specs.declared.Refusal.TheVariants.{Unread, WrongMac, UnknownKey, WrongTie, LimitFails, NoYes, NoneHolds}
-use Rattle.verifier.specs.declared.Verdict.{Verdict}
-use Rattle.verifier.specs.declared.Verdict.TheVariants.{Through, Refused}
-use Rattle.verifier.specs.Verdict.{untied, plainly, verdict}
+use Rattle.verifier.specs.declared.Refusal.TheVariants.{Unread, WrongMac, UnknownKey, WrongTie, Unmet}
+use Rattle.verifier.specs.Verdict.{Verdict, untied, plainly, verdict}
 
 -- the ticket has the bytes of its own term
 abbrev pub MacRight : Secrets → ShownView → Type 0
@@ -43,18 +40,16 @@ pub record LetThrough (s : Secrets) (bs : Bytes) : Type 0 where
   pub met : lets (today (says view.asked)) (plainly view) ≡ true
 
 abbrev pub ThroughExactly : Type 0
-ThroughExactly = (s : Secrets) (bs : Bytes) → (verdict s bs ≡ Through → LetThrough s bs) × (LetThrough s bs → verdict s bs ≡ Through)
+ThroughExactly = (s : Secrets) (bs : Bytes) → (verdict s bs ≡ Ok tt → LetThrough s bs) × (LetThrough s bs → verdict s bs ≡ Ok tt)
 
 -- the condition of each answer, which says that none of a lower number holds
 abbrev pub Why : Secrets → Bytes → Verdict → Type 0
-Why s bs Through = LetThrough s bs
-Why s bs (Refused (Unread f)) = shown_of bs ≡ Err f
-Why s bs (Refused WrongMac) = (v : ShownView) × (shown_of bs ≡ Ok v) × (MacRight s v → ⊥)
-Why s bs (Refused UnknownKey) = (v : ShownView) × (shown_of bs ≡ Ok v) × MacRight s v × (AllKnown s v → ⊥)
-Why s bs (Refused WrongTie) = (v : ShownView) × (shown_of bs ≡ Ok v) × MacRight s v × AllKnown s v × (AllTied s v → ⊥)
-Why s bs (Refused (LimitFails i)) = (v : ShownView) × (shown_of bs ≡ Ok v) × AllRight s v × Cause (says v.asked) v.ticket.of.lines (untied v.yeses) (judgement.LimitFails i)
-Why s bs (Refused (NoYes i)) = (v : ShownView) × (shown_of bs ≡ Ok v) × AllRight s v × Cause (says v.asked) v.ticket.of.lines (untied v.yeses) (judgement.NoYes i)
-Why s bs (Refused (NoneHolds i)) = (v : ShownView) × (shown_of bs ≡ Ok v) × AllRight s v × Cause (says v.asked) v.ticket.of.lines (untied v.yeses) (judgement.NoneHolds i)
+Why s bs (Ok _) = LetThrough s bs
+Why s bs (Err (Unread f)) = shown_of bs ≡ Err f
+Why s bs (Err WrongMac) = (v : ShownView) × (shown_of bs ≡ Ok v) × (MacRight s v → ⊥)
+Why s bs (Err UnknownKey) = (v : ShownView) × (shown_of bs ≡ Ok v) × MacRight s v × (AllKnown s v → ⊥)
+Why s bs (Err WrongTie) = (v : ShownView) × (shown_of bs ≡ Ok v) × MacRight s v × AllKnown s v × (AllTied s v → ⊥)
+Why s bs (Err (Unmet f)) = (v : ShownView) × (shown_of bs ≡ Ok v) × AllRight s v × Cause (says v.asked) v.ticket.of.lines (untied v.yeses) (Err f)
 
 -- An answer is given exactly if its condition holds.
 abbrev pub VerdictExactly : Type 0
@@ -70,4 +65,4 @@ abbrev pub LineNoMore : Type 0
 LineNoMore =
     (s : Secrets) (w : WishView) (t u : Ticket) (l : Bytes) (ys : List Yes) → Right s (ATicket t) → ((y : Yes) → Memᴰ y ys → Right s (AYes y)) →
     line_added t l ≡ Ok u → shown.fits (showing w t ys) ≡ true →
-    verdict s (shown.write (showing w u ys)) ≡ Through → verdict s (shown.write (showing w t ys)) ≡ Through
+    verdict s (shown.write (showing w u ys)) ≡ Ok tt → verdict s (shown.write (showing w t ys)) ≡ Ok tt

@@ -1,5 +1,5 @@
 -- The stages of the house's verdict, as the code passes them on. Assumes nothing.
-use Rattle.std.specs.Prelude.{◌≡◌, Bool, true, List, Ok, Err, Result}
+use Rattle.std.specs.Prelude.{◌≡◌, Bool, true, ◌&&◌, List, is_some}
 use Rattle.narrow.specs.Rows.{all}
 use Rattle.narrow.specs.Term.{Bytes}
 use Rattle.narrow.specs.Ticket as model
@@ -12,13 +12,6 @@ use Rattle.book.specs.declared.held.Book.{Book}
 use Rattle.book.specs.Booking.{secrets_of}
 use Rattle.book.specs.Views.{book_view}
 use Rattle.showing.specs.Showing.{ShownView}
-use Rattle.std.specs.declared.alloc.AllocError.{AllocError}
-use Rattle.showing.specs.declared.unread.Unread.{Unread}
-use Rattle.showing.specs.declared.unread.Unread.TheVariants as unread
-use Rattle.verifier.specs.declared.State.{State}
-use Rattle.verifier.specs.declared.Refusal.TheVariants as refusal
-use Rattle.verifier.specs.declared.Verdict.{Verdict}
-use Rattle.verifier.specs.declared.Verdict.TheVariants.{Refused}
 use Rattle.verifier.specs.Verdict.{right_mac, known_keys, right_ties}
 
 -- the secrets of a book
@@ -35,12 +28,10 @@ pub record Passes (s : Secrets) (v : ShownView) : Type 0 where
 abbrev pub tie_is : Secrets → Bytes → Tied → Bool
 tie_is s mac y = same_bytes y.mac (hmac_of mac (tie_message (bytes_of (by_hmac s) (model.yes_mac y.of))))
 
--- each of them
+-- the house knows its key too
+abbrev pub known_tie : Secrets → Bytes → Tied → Bool
+known_tie s mac y = is_some (s.key y.of.key) && tie_is s mac y
+
+-- each of them is so tied
 abbrev pub tied_to : Secrets → Bytes → List Tied → Bool
 tied_to s mac ys = all (tie_is s mac) ys
-
--- the answer for what can't be read: its fault, with the state as it was; only want of memory is an error
-abbrev pub Unreadable : Unread → State → Result (Verdict × State) AllocError → Type 0
-Unreadable (unread.Bad f) s r = r ≡ Ok (Refused (refusal.Unread f), s)
-Unreadable unread.NoMemory s (Ok p) = ⊥
-Unreadable unread.NoMemory s (Err e) = Unit {0}

@@ -10,14 +10,15 @@ use Rattle.lines.specs.Meaning.{says}
 use Rattle.lines.specs.Reading.{fault_number}
 use Rattle.tickets.specs.Making.{Ticket, Tied}
 use Rattle.tickets.specs.Made.{Secrets, by_hmac}
-use Rattle.judging.specs.declared.Judgement.{Judgement}
-use Rattle.judging.specs.declared.Judgement.TheVariants as judgement
-use Rattle.judging.specs.Judged.{judged}
+use Rattle.judging.specs.declared.Failing.TheVariants.{LimitFails, NoYes, NoneHolds}
+use Rattle.judging.specs.Judged.{Judgement, judged}
 use Rattle.showing.specs.Showing.{ShownView, shown_of}
 use Rattle.verifier.specs.declared.Refusal.{Refusal}
-use Rattle.verifier.specs.declared.Refusal.TheVariants.{Unread, WrongMac, UnknownKey, WrongTie, LimitFails, NoYes, NoneHolds}
-use Rattle.verifier.specs.declared.Verdict.{Verdict}
-use Rattle.verifier.specs.declared.Verdict.TheVariants.{Through, Refused}
+use Rattle.verifier.specs.declared.Refusal.TheVariants.{Unread, WrongMac, UnknownKey, WrongTie, Unmet}
+
+-- what the house says: the wish is let through, or why it is not
+abbrev pub Verdict : Type 0
+Verdict = Result (Unit {0}) Refusal
 
 -- the number by which a refusal is told
 abbrev pub refusal_number : Refusal → ℕ
@@ -25,9 +26,9 @@ refusal_number (Unread f) = fault_number f
 refusal_number WrongMac = 5
 refusal_number UnknownKey = 6
 refusal_number WrongTie = 7
-refusal_number (LimitFails i) = 8
-refusal_number (NoYes i) = 9
-refusal_number (NoneHolds i) = 10
+refusal_number (Unmet (LimitFails i)) = 8
+refusal_number (Unmet (NoYes i)) = 9
+refusal_number (Unmet (NoneHolds i)) = 10
 
 -- the line that it is told of, from 0
 abbrev pub refusal_place : Refusal → Option ℕ
@@ -35,9 +36,9 @@ refusal_place (Unread f) = None
 refusal_place WrongMac = None
 refusal_place UnknownKey = None
 refusal_place WrongTie = None
-refusal_place (LimitFails i) = Some i
-refusal_place (NoYes i) = Some i
-refusal_place (NoneHolds i) = Some i
+refusal_place (Unmet (LimitFails i)) = Some i
+refusal_place (Unmet (NoYes i)) = Some i
+refusal_place (Unmet (NoneHolds i)) = Some i
 
 -- the ticket's MAC is the bytes of its own term
 abbrev pub right_mac : Secrets → Ticket → Bool
@@ -61,10 +62,8 @@ plainly v = record { ticket = v.ticket.of; yeses = untied v.yeses }
 
 -- the stage of lines
 abbrev pub of_lines : Judgement → Verdict
-of_lines judgement.Through = Through
-of_lines (judgement.LimitFails i) = Refused (LimitFails i)
-of_lines (judgement.NoYes i) = Refused (NoYes i)
-of_lines (judgement.NoneHolds i) = Refused (NoneHolds i)
+of_lines (Ok _) = Ok tt
+of_lines (Err f) = Err (Unmet f)
 
 abbrev pub by_lines : ShownView → Verdict
 by_lines v = of_lines (judged (says v.asked) v.ticket.of.lines (untied v.yeses))
@@ -73,12 +72,12 @@ by_lines v = of_lines (judged (says v.asked) v.ticket.of.lines (untied v.yeses))
 unfoldable pub verdict_on : Secrets → ShownView → Verdict
 verdict_on s v =
     cond (right_mac s v.ticket)
-    (cond (known_keys s v.yeses) (cond (right_ties s v.ticket.of v.yeses) (by_lines v) (Refused WrongTie)) (Refused UnknownKey))
-    (Refused WrongMac)
+    (cond (known_keys s v.yeses) (cond (right_ties s v.ticket.of v.yeses) (by_lines v) (Err WrongTie)) (Err UnknownKey))
+    (Err WrongMac)
 
 abbrev pub on_read : Secrets → Result ShownView Fault → Verdict
 on_read s (Ok v) = verdict_on s v
-on_read s (Err f) = Refused (Unread f)
+on_read s (Err f) = Err (Unread f)
 
 -- what the house says of any bytes whatever
 unfoldable pub verdict : Secrets → Bytes → Verdict

@@ -2,25 +2,25 @@
 #![tactic(auto)]
 
 ghost use Rattle.showing.specs.Views.{shown_view};
-ghost use Rattle.std.specs.Prelude.{◌≡◌, IfOk};
+ghost use Rattle.std.specs.Prelude.{◌≡◌, Ok, IfOk};
 ghost use Rattle.verifier.specs.Laws.{LetThrough, Why, ThroughExactly, VerdictExactly, LineNoMore};
-ghost use Rattle.verifier.specs.Stages.{secrets, Unreadable};
-ghost use Rattle.verifier.specs.Verdict.{by_lines, verdict};
-ghost use Rattle.verifier.specs.declared.Verdict.TheVariants.{Through};
+ghost use Rattle.verifier.specs.Stages.{secrets};
+ghost use Rattle.verifier.specs.Verdict.{by_lines, verdict_on, verdict};
+ghost use Rattle.verifier.specs.declared.Refusal.TheVariants.{Unmet};
 
 mod macs;
 mod right;
 
 use book::Book;
-use judging::{Judgement, judge};
+use judging::{Failing, judge};
 use lines::Fault;
 pub use macs::Macs;
 pub use right::{Right, check};
-use showing::{Unread, read_shown};
+use showing::{Shown, Unread, read_shown};
 use std::alloc::{AllocError, Global};
 
 /// Why a wish is not let through. Numbers and places are given by `refusal_number` and `refusal_place` in specs/.
-#[derive(Clone, Copy)]
+#[derive(Clone, Copy, PartialEq, Eq, Debug)]
 pub enum Refusal {
     /// The bytes can't be read, or the wish is out of range.
     Unread(Fault),
@@ -30,20 +30,20 @@ pub enum Refusal {
     UnknownKey,
     /// A yes whose tie isn't right.
     WrongTie,
-    /// A limit of the ticket that doesn't hold.
-    LimitFails(usize),
-    /// An else without a yes.
-    NoYes(usize),
-    /// An else for which no yes's limits all hold.
-    NoneHolds(usize),
+    /// A line that isn't met.
+    Unmet(Failing),
 }
 
-/// What the house says.
-#[derive(Clone, Copy)]
-pub enum Verdict {
-    Through,
-    Refused(Refusal),
+impl From<Failing> for Refusal {
+    ghost from_gives = { λ failing r. r ≡ Unmet failing };
+
+    fn from(failing: Failing) -> Refusal {
+        Refusal::Unmet(failing)
+    }
 }
+
+/// What the house says: the wish is let through, or it is refused.
+pub type Verdict = Result<(), Refusal>;
 
 /// What the house remembers from one wish to the next: nothing, today.
 #[derive(Clone, Copy)]
@@ -58,40 +58,31 @@ pub fn admit(
     bytes: &[u8],
 ) -> Result<(Verdict, State), AllocError>
     ensures verdict { IfOk result (λ p. p.0 ≡ verdict (secrets book.now) bytes.now) }
-    ensures through { IfOk result (λ p. (p.0 ≡ Through → LetThrough (secrets book.now) bytes.now) × (LetThrough (secrets book.now) bytes.now → p.0 ≡ Through)) }
+    ensures through { IfOk result (λ p. (p.0 ≡ Ok tt → LetThrough (secrets book.now) bytes.now) × (LetThrough (secrets book.now) bytes.now → p.0 ≡ Ok tt)) }
     ensures why { IfOk result (λ p. Why (secrets book.now) bytes.now p.0) }
 {
-    let shown = match read_shown(heap, bytes) {
-        Ok(shown) => shown,
-        Err(unread) => return not_read(unread, state),
+    let verdict = match read_shown(heap, bytes) {
+        Ok(shown) => verdict_on(book, shown),
+        Err(Unread::Bad(fault)) => Err(Refusal::Unread(fault)),
+        Err(Unread::NoMemory) => return Err(AllocError),
     };
-    match check(book, shown) {
-        Ok(right) => Ok((by_lines(&right), state)),
-        Err(refusal) => Ok((Verdict::Refused(refusal), state)),
-    }
+    Ok((verdict, state))
 }
 
-// What can't be read is refused.
-fn not_read(unread: Unread, state: State) -> Result<(Verdict, State), AllocError>
-    ensures { Unreadable unread state result }
+// The verdict on what could be read.
+fn verdict_on(book: &Book, shown: Shown) -> Verdict
+    ensures { result ≡ verdict_on (secrets book.now) (shown_view shown) }
 {
-    match unread {
-        Unread::Bad(fault) => Ok((Verdict::Refused(Refusal::Unread(fault)), state)),
-        Unread::NoMemory => Err(AllocError),
-    }
+    let right = check(book, shown)?;
+    by_lines(&right.shown)
 }
 
 // The stage of lines.
-fn by_lines(right: &Right) -> Verdict
-    ensures { result ≡ by_lines (shown_view right.now.shown) }
+fn by_lines(shown: &Shown) -> Verdict
+    ensures { result ≡ by_lines (shown_view shown.now) }
 {
-    let shown = &right.shown;
-    match judge(shown.wish, &shown.ticket.body, shown.yeses.as_slice()) {
-        Judgement::Through => Verdict::Through,
-        Judgement::LimitFails(place) => Verdict::Refused(Refusal::LimitFails(place)),
-        Judgement::NoYes(place) => Verdict::Refused(Refusal::NoYes(place)),
-        Judgement::NoneHolds(place) => Verdict::Refused(Refusal::NoneHolds(place)),
-    }
+    judge(shown.wish, &shown.ticket.body, shown.yeses.as_slice())?;
+    Ok(())
 }
 
 /// A wish is let through exactly if what is shown is right and the model lets it through.

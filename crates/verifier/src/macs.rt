@@ -22,13 +22,8 @@ pub fn work_out(start: Mac, lines: &Lines) -> Macs
 {
     let mut each = [start; 33];
     let count = lines.len();
-    for i in 0..count {
-        let Some(line) = lines.line(i) else {
-            break;
-        };
-        let before = each[i];
-        let next = before.mac(line);
-        each[i + 1] = next;
+    for (i, line) in lines.iter().enumerate() {
+        each[i + 1] = each[i].mac(line);
     }
     Macs { each, count }
 }
@@ -37,7 +32,6 @@ impl Macs {
     pub fn last(self) -> Mac
         ensures { (d : Mac) → result ≡ slice_index_or self.each self.count d }
     {
-        let Macs { each, count } = self;
-        each[count]
+        self.each[self.count]
     }
 }

@@ -1,5 +1,6 @@
 // The stage of MACs: whether what is shown is right under the house's keys.
-ghost use Rattle.std.specs.Prelude.{◌≡◌, ℕ, true, ◌∷◌, map, is_some, MatchResult, slice_index_or};
+ghost use Rattle.std.specs.Prelude.{◌≡◌, ◌∷◌, map, Err, MatchResult, slice_index_or};
+ghost use Rattle.narrow.specs.Rows.{all};
 ghost use Rattle.hmac.specs.declared.Mac.{Mac};
 ghost use Rattle.narrow.specs.Term.{Bytes};
 ghost use Rattle.narrow.specs.Ticket.{ticket_mac, yes_message};
@@ -10,9 +11,8 @@ ghost use Rattle.tickets.specs.Made.{by_hmac};
 ghost use Rattle.tickets.specs.Making.{Tied};
 ghost use Rattle.tickets.specs.Views.{ticket_body, tied_view};
 ghost use Rattle.verifier.specs.Chain.{chained};
-ghost use Rattle.verifier.specs.Stages.{secrets, Passes, tie_is, tied_to};
-ghost use Rattle.verifier.specs.Verdict.{known_keys, right_ties, verdict_on};
-ghost use Rattle.verifier.specs.declared.Verdict.TheVariants.{Refused};
+ghost use Rattle.verifier.specs.Stages.{secrets, Passes, known_tie};
+ghost use Rattle.verifier.specs.Verdict.{known_keys, verdict_on};
 
 use crate::Refusal;
 use crate::macs::{Macs, work_out};
@@ -33,17 +33,18 @@ pub struct Right {
 pub fn check(book: &Book, shown: Shown) -> Result<Right, Refusal>
     ensures { MatchResult result
         (λ k. (k.shown ≡ shown) × Passes (secrets book.now) (shown_view shown))
-        (λ f. verdict_on (secrets book.now) (shown_view shown) ≡ Refused f) }
+        (λ f. verdict_on (secrets book.now) (shown_view shown) ≡ Err f) }
 {
     let macs = ticket_macs(book, &shown.ticket.body);
     let last = macs.last();
     if !last.same(shown.ticket.mac) {
         return Err(Refusal::WrongMac);
     }
-    if !all_known(book, shown.yeses.as_slice()) {
+    let yeses = shown.yeses.as_slice();
+    if !all_known(book, yeses) {
         return Err(Refusal::UnknownKey);
     }
-    if !all_tied(book, last, shown.yeses.as_slice()) {
+    if !all_tied(book, last, yeses) {
         return Err(Refusal::WrongTie);
     }
     Ok(Right { shown, macs })
@@ -61,30 +62,18 @@ fn ticket_macs(book: &Book, ticket: &TicketBody) -> Macs
 fn all_known(book: &Book, yeses: &[TiedYes]) -> bool
     ensures { result ≡ known_keys (secrets book.now) (map tied_view yeses.now) }
 {
-    for yes in yeses {
-        if book.secret(yes.body.key).is_none() {
-            return false;
-        }
-    }
-    true
+    yeses.iter().all(|yes| book.secret(yes.body.key).is_some())
 }
 
-// Each is tied to the ticket that has this MAC.
+// The house knows the key of each, and each is tied to the ticket that has this MAC.
 fn all_tied(book: &Book, ticket: Mac, yeses: &[TiedYes]) -> bool
-    ensures { known_keys (secrets book.now) (map tied_view yeses.now) ≡ true →
-        result ≡ tied_to (secrets book.now) ticket.bytes (map tied_view yeses.now) }
+    ensures { result ≡ all (known_tie (secrets book.now) ticket.bytes) (map tied_view yeses.now) }
 {
-    for yes in yeses {
-        if !is_tied(book, ticket, yes) {
-            return false;
-        }
-    }
-    true
+    yeses.iter().all(|yes| is_tied(book, ticket, yes))
 }
 
 fn is_tied(book: &Book, ticket: Mac, yes: &TiedYes) -> bool
-    ensures { is_some ((secrets book.now).key (tied_view yes.now).of.key) ≡ true →
-        result ≡ tie_is (secrets book.now) ticket.bytes (tied_view yes.now) }
+    ensures { result ≡ known_tie (secrets book.now) ticket.bytes (tied_view yes.now) }
 {
     let Some(secret) = book.secret(yes.body.key) else {
         return false;

@@ -1,9 +1,9 @@
 use Rattle.std.proofs.Common.{◌≡◌, List, vec_items, ap, ◌∙◌}
+use Rattle.std.proofs.lemmas.Result.{err_from_is_err_and}
 use Rattle.lines.specs.Meaning.{says}
 use Rattle.rows.specs.Row.{rows}
 use Rattle.tickets.specs.declared.TiedYes.{TiedYes}
-use Rattle.judging.specs.declared.Judgement.{Judgement}
-use Rattle.judging.specs.Judged.{judged}
+use Rattle.judging.specs.Judged.{Judgement, judged}
 use Rattle.judging.specs.Views.{bodies}
 use Rattle.wishes.specs.Views.{wish_view}
 use Rattle.showing.specs.declared.shown.Shown.{Shown}
@@ -17,14 +17,10 @@ lines_are : (s : Shown) (lent : List TiedYes) (j : Judgement) → lent ≡ vec_i
 lines_are s lent j same e =
     ap of_lines (e ∙ ap (judged (says (wish_view s.wish)) (rows s.ticket.body.lines)) (ap bodies same ∙ bodies_untied (vec_items s.yeses)))
 
-pub returns-in-Through : goal.returns-in-Through
-returns-in-Through c = lines_are c.args.right.now.shown _ _ c.as_slice.ensures.value c.in-Through.ensures.value
+pub returns-in_err-judge : goal.returns-in_err-judge
+returns-in_err-judge c =
+    let p = err_from_is_err_and c.from_residual.result c.from_residual.ensures.1 in
+    rw (p.1, p.2) (lines_are c.args.shown.now _ _ c.as_slice.ensures.value c.in_err-judge.ensures.value)
 
-pub returns-in-LimitFails : goal.returns-in-LimitFails
-returns-in-LimitFails c = lines_are c.args.right.now.shown _ _ c.as_slice.ensures.value c.in-LimitFails.ensures.value
-
-pub returns-in-NoYes : goal.returns-in-NoYes
-returns-in-NoYes c = lines_are c.args.right.now.shown _ _ c.as_slice.ensures.value c.in-NoYes.ensures.value
-
-pub returns-in-NoneHolds : goal.returns-in-NoneHolds
-returns-in-NoneHolds c = lines_are c.args.right.now.shown _ _ c.as_slice.ensures.value c.in-NoneHolds.ensures.value
+pub returns : goal.returns
+returns c = lines_are c.args.shown.now _ _ c.as_slice.ensures.value c.in_ok-judge.ensures.value
