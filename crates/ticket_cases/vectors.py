@@ -137,8 +137,18 @@ def table(what, name, kind, rows):
     print("];")
 
 
+# The kinds and the faults of Rattle, by their numbers; no fault is 0.
+KINDS = {16: "Ticket", 17: "Yes", 18: "Tied", 19: "Passed", 20: "Key"}
+FAULTS = {1: "Shape", 2: "Unreadable", 3: "TooMany"}
+
+
+def told(fault):
+    return f"Some(Fault::{FAULTS[fault]})" if fault else "None"
+
+
 def tables():
     print("// Written by vectors.py: the MACs are from Python's hmac, which calls OpenSSL.")
+    print("use codec::Kind;\nuse lines::Fault;")
     const("The house's key.", "HOUSE", "[u8; 32]", "*" + literal(HOUSE))
     table("Ticket 7 with its first line, with two, and with three.", "TICKETS", "&[u8]", [("", [literal(t) for t in TICKETS])])
     const("Key 5.", "KEY", "&[u8]", literal(KEY))
@@ -146,10 +156,10 @@ def tables():
     const("The second yes, tied to the third ticket.", "TIED", "&[u8]", literal(TIED))
     const("The same as it is passed on.", "PASSED", "&[u8]", literal(PASSED))
     table(
-        "The kind that is looked for, bytes to which 32 more are added, and what is told of them all: 0 if they are read, else the number of the fault.",
+        "The kind that is looked for, bytes to which 32 more are added, and the fault that is told of them all, if they aren't read.",
         "TOLD",
-        "(u8, &[u8], u8)",
-        [(title, [f"({kind}, {literal(data)}, {fault})" for kind, data, fault in group]) for title, group in TOLD],
+        "(Kind, &[u8], Option<Fault>)",
+        [(title, [f"(Kind::{KINDS[kind]}, {literal(data)}, {told(fault)})" for kind, data, fault in group]) for title, group in TOLD],
     )
     table(
         "Two tickets without their MACs; whether they are the same, and whether the first is the second with lines added.",

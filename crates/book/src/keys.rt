@@ -6,8 +6,9 @@ ghost use Rattle.book.specs.Views.{book_view};
 ghost use Rattle.std.specs.Prelude.{◌≡◌, false, Ok, Err, MatchResult};
 
 use crate::held::Book;
-use codec::{KEY_KIND, read_key_number, read_kind, read_mac};
-use lines::Fault;
+use codec::{Coded, Kind, read_kind};
+use hmac::Mac;
+use lines::{Fault, KeyNumber};
 use rows::Reader;
 use std::alloc::AllocError;
 use tickets::YesKey;
@@ -18,12 +19,12 @@ pub fn read_key(reader: &mut Reader<'_>, book: &Book) -> Result<YesKey, Fault>
         (λ k. (new_key (book_view book.now).keys).read reader.old.rest.now ≡ Ok (key_view k, reader.new.rest.now))
         (λ f. (new_key (book_view book.now).keys).read reader.old.rest.now ≡ Err f) }
 {
-    read_kind(reader, KEY_KIND)?;
-    let number = read_key_number(reader)?;
+    read_kind(reader, Kind::Key as u8)?;
+    let number = KeyNumber::read(reader)?;
     if book.secret(number).is_some() {
         return Err(Fault::Unreadable);
     }
-    let secret = read_mac(reader)?;
+    let secret = Mac::read(reader)?;
     Ok(YesKey { number, secret })
 }
 

@@ -12,7 +12,7 @@ ghost use Rattle.std.specs.Prelude.{◌≡◌, [], IfOk};
 mod held;
 mod keys;
 
-use codec::{Coded, read_kind, read_mac};
+use codec::{Coded, Kind, read_kind};
 pub use held::{AddError, Book};
 use hmac::Mac;
 use keys::read_key;
@@ -22,8 +22,6 @@ use rows::Reader;
 use showing::Unread;
 use std::alloc::{AllocError, Global};
 use tickets::YesKey;
-
-const BOOK_KIND: u8 = 23;
 
 impl Book {
     /// A book of this house that has no keys yet.
@@ -66,7 +64,7 @@ impl Book {
         ensures { IfOk result (λ v. v.items ≡ book_bytes (book_view self.now)) }
     {
         let mut out = Vec::new(heap);
-        out.push(BOOK_KIND)?;
+        out.push(Kind::Book as u8)?;
         out.extend_from_slice(&self.house.bytes())?;
         out.extend_from_slice(&(self.keys.len() as u16).to_bytes())?;
         for key in self.keys.as_slice() {
@@ -81,8 +79,8 @@ pub fn read_book(heap: Global, bytes: &[u8]) -> Result<Book, Unread>
     ensures { Told book_view (book_of bytes.now) result }
 {
     let mut reader = Reader::new(bytes);
-    read_kind(&mut reader, BOOK_KIND)?;
-    let house = read_mac(&mut reader)?;
+    read_kind(&mut reader, Kind::Book as u8)?;
+    let house = Mac::read(&mut reader)?;
     let Some(count) = reader.number::<u16, _>() else {
         return Err(Unread::Bad(Fault::Shape));
     };

@@ -48,9 +48,13 @@ ticket_body_format =
     (named (λ p. record { number = p.0; lines = p.1 }) (λ t. (t.number, t.lines))
     (both (fixed number_length) (only (λ ls. nat_lt 0 (length ls)) Unreadable (row Ticket))))
 
--- a yes's key and limits, behind the kind of what it stands in
+-- a yes's key and limits
+abbrev pub yes_content : Format model.Yes
+yes_content = named (λ p. record { key = p.0; lines = p.1 }) (λ y. (y.key, y.lines)) (both key_number (row Yes))
+
+-- the same behind the kind of what it stands in
 abbrev pub yes_body_format : ℕ → Format model.Yes
-yes_body_format kind = behind kind (named (λ p. record { key = p.0; lines = p.1 }) (λ y. (y.key, y.lines)) (both key_number (row Yes)))
+yes_body_format kind = behind kind yes_content
 
 -- a ticket
 abbrev pub ticket : Format making.Ticket

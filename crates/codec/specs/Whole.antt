@@ -1,8 +1,13 @@
 -- Bytes that are left over. Assumes nothing.
-use Rattle.std.specs.Prelude.{◌≡◌, [], ◌≢◌}
+use Rattle.std.specs.Prelude.{◌≡◌, [], Ok, ◌≢◌}
 use Rattle.narrow.specs.Term.{Bytes}
 use Rattle.lines.specs.declared.Fault.{Fault}
 use Rattle.lines.specs.declared.Fault.TheVariants.{Shape}
+use Rattle.codec.specs.Format.{Format}
+
+-- these bytes are read as this, and those follow
+abbrev pub Reads : {A B : Type 0} → Format B → (A → B) → Bytes → A → Bytes → Type 0
+Reads f view bs x rest = f.read bs ≡ Ok (view x, rest)
 
 -- something was read at the front, and bytes follow: that is told as fault 1
 abbrev pub LeftOver : {A : Type 0} → (Bytes → A → Bytes → Type 0) → Bytes → Fault → Type 0

@@ -1,30 +1,31 @@
 // What tickets and yeses say, without their MACs.
-ghost use Rattle.std.specs.Prelude.{◌≡◌, ℕ, IfOk, Ok, Err, MatchResult};
-ghost use Rattle.codec.specs.Things.{ticket_body_format, yes_body_format};
+ghost use Rattle.std.specs.Prelude.{◌≡◌, ◌∷◌, ◌++◌, length, IfOk};
+ghost use Rattle.codec.specs.Things.{ticket_body_format, yes_body_format, yes_content, yes_kind};
+ghost use Rattle.narrow.specs.Ticket as model;
+ghost use Rattle.rows.specs.Due.{ReadAs};
+ghost use Rattle.rows.specs.Row.{rows};
+ghost use Rattle.rows.specs.Wire.{wire};
 ghost use Rattle.tickets.specs.Views.{ticket_body, yes_body};
 
-use crate::Coded;
-use crate::fields::{read_key_number, read_kind};
-use lines::{Fault, Place};
+use crate::coded::Coded;
+use crate::fields::read_kind;
+use crate::kind::Kind;
+use lines::{Fault, KeyNumber, Place};
 use numbers::Number;
-use rows::Reader;
-use std::alloc::{AllocError, Global};
+use rows::{Lines, Reader};
+use std::alloc::AllocError;
 use tickets::{TicketBody, YesBody};
 
-const TICKET_KIND: u8 = 16;
-
 impl Coded for TicketBody {
-    ghost reads = { λ bs t rest. ticket_body_format.read bs ≡ Ok (ticket_body t, rest) };
+    ghost View = { model.Ticket };
 
-    ghost faulty = { λ bs f. ticket_body_format.read bs ≡ Err f };
+    ghost view = { ticket_body };
 
-    ghost written = { λ t. ticket_body_format.write (ticket_body t) };
+    ghost format = { ticket_body_format };
 
     fn read(reader: &mut Reader<'_>) -> Result<TicketBody, Fault> {
-        read_kind(reader, TICKET_KIND)?;
-        let Some(number) = reader.number() else {
-            return Err(Fault::Shape);
-        };
+        read_kind(reader, Kind::Ticket as u8)?;
+        let number = reader.number().ok_or(Fault::Shape)?;
         let lines = reader.row(Place::Ticket)?;
         if lines.len() == 0 {
             return Err(Fault::Unreadable);
@@ -32,35 +33,51 @@ impl Coded for TicketBody {
         Ok(TicketBody { number, lines })
     }
 
-    fn to_bytes(&self, heap: Global) -> Result<Vec<u8>, AllocError> {
-        let mut out = Vec::new(heap);
-        out.push(TICKET_KIND)?;
+    fn write(&self, out: &mut Vec<u8>) -> Result<(), AllocError> {
+        out.push(Kind::Ticket as u8)?;
         out.extend_from_slice(&self.number.to_bytes())?;
-        out.push(self.lines.len() as u8)?;
-        out.extend_from_slice(self.lines.wire())?;
-        Ok(out)
+        write_row(out, &self.lines)
     }
 }
 
-/// A yes's body behind the kind of what it stands in: a yes, or a tied one.
-pub fn read_yes_body(reader: &mut Reader<'_>, kind: u8) -> Result<YesBody, Fault>
-    ensures { MatchResult result
-        (λ y. (yes_body_format kind).read reader.old.rest.now ≡ Ok (yes_body y, reader.new.rest.now))
-        (λ f. (yes_body_format kind).read reader.old.rest.now ≡ Err f) }
+impl Coded for YesBody {
+    ghost View = { model.Yes };
+
+    ghost view = { yes_body };
+
+    ghost format = { yes_body_format yes_kind };
+
+    fn read(reader: &mut Reader<'_>) -> Result<YesBody, Fault> {
+        read_kind(reader, Kind::Yes as u8)?;
+        read_content(reader)
+    }
+
+    fn write(&self, out: &mut Vec<u8>) -> Result<(), AllocError> {
+        out.push(Kind::Yes as u8)?;
+        write_content(out, self)
+    }
+}
+
+// A yes's body behind its kind, which may be that of a yes or that of a tied one.
+pub fn read_content(reader: &mut Reader<'_>) -> Result<YesBody, Fault>
+    ensures { ReadAs yes_content.read yes_body reader.old.rest.now result reader.new.rest.now }
 {
-    read_kind(reader, kind)?;
-    let key = read_key_number(reader)?;
+    let key = KeyNumber::read(reader)?;
     let limits = reader.row(Place::Yes)?;
     Ok(YesBody { key, limits })
 }
 
-pub fn yes_body_bytes(heap: Global, kind: u8, body: &YesBody) -> Result<Vec<u8>, AllocError>
-    ensures { IfOk result (λ v. v.items ≡ (yes_body_format kind).write (yes_body body.now)) }
+pub fn write_content(out: &mut Vec<u8>, body: &YesBody) -> Result<(), AllocError>
+    ensures { IfOk result (λ _. out.new.items ≡ out.old.items ++ yes_content.write (yes_body body.now)) }
 {
-    let mut out = Vec::new(heap);
-    out.push(kind)?;
-    out.extend_from_slice(&body.key.get().to_bytes())?;
-    out.push(body.limits.len() as u8)?;
-    out.extend_from_slice(body.limits.wire())?;
-    Ok(out)
+    body.key.write(out)?;
+    write_row(out, &body.limits)
+}
+
+// A count, and the lines as they are carried.
+fn write_row(out: &mut Vec<u8>, lines: &Lines) -> Result<(), AllocError>
+    ensures { IfOk result (λ _. out.new.items ≡ out.old.items ++ length (rows lines.now) ∷ wire (rows lines.now)) }
+{
+    out.push(lines.len() as u8)?;
+    out.extend_from_slice(lines.wire())
 }

@@ -1,12 +1,15 @@
 // What things are made of: their kind, the number of a key, a MAC.
-ghost use Rattle.std.specs.Prelude.{◌≡◌, ℕ, List, ◌∷◌, Ok, Err, MatchOption, MatchResult, ◌≢◌};
-ghost use Rattle.codec.specs.Format.{fixed};
+ghost use Rattle.std.specs.Prelude.{◌≡◌, ℕ, List, ◌∷◌, MatchResult, ◌≢◌};
 ghost use Rattle.codec.specs.Things.{key_number, mac};
 ghost use Rattle.lines.specs.declared.Fault.TheVariants.{Shape};
+ghost use Rattle.narrow.specs.Term.{Bytes};
 
+use crate::coded::Coded;
 use hmac::Mac;
 use lines::{Fault, KeyNumber};
+use numbers::Number;
 use rows::Reader;
+use std::alloc::AllocError;
 
 /// The kind that is looked for, and no other.
 pub fn read_kind(reader: &mut Reader<'_>, kind: u8) -> Result<(), Fault>
@@ -14,38 +17,43 @@ pub fn read_kind(reader: &mut Reader<'_>, kind: u8) -> Result<(), Fault>
         (λ _. reader.old.rest.now ≡ kind ∷ reader.new.rest.now)
         (λ f. (f ≡ Shape) × ((rest : List ℕ) → reader.old.rest.now ≢ kind ∷ rest)) }
 {
-    let Some(found) = reader.byte() else {
-        return Err(Fault::Shape);
-    };
+    let found = reader.byte().ok_or(Fault::Shape)?;
     if found != kind {
         return Err(Fault::Shape);
     }
     Ok(())
 }
 
-pub fn read_key_number(reader: &mut Reader<'_>) -> Result<KeyNumber, Fault>
-    ensures { MatchResult result
-        (λ k. key_number.read reader.old.rest.now ≡ Ok (k.number, reader.new.rest.now))
-        (λ f. key_number.read reader.old.rest.now ≡ Err f) }
-{
-    let Some(number) = reader.number() else {
-        return Err(Fault::Shape);
-    };
-    let Some(key) = KeyNumber::new(number) else {
-        return Err(Fault::Unreadable);
-    };
-    Ok(key)
+impl Coded for KeyNumber {
+    ghost View = { ℕ };
+
+    ghost view = { λ k. k.number };
+
+    ghost format = { key_number };
+
+    fn read(reader: &mut Reader<'_>) -> Result<KeyNumber, Fault> {
+        let number = reader.number().ok_or(Fault::Shape)?;
+        KeyNumber::new(number).ok_or(Fault::Unreadable)
+    }
+
+    fn write(&self, out: &mut Vec<u8>) -> Result<(), AllocError> {
+        out.extend_from_slice(&self.get().to_bytes())
+    }
 }
 
-pub fn read_mac(reader: &mut Reader<'_>) -> Result<Mac, Fault>
-    ensures { MatchResult result
-        (λ m. mac.read reader.old.rest.now ≡ Ok (m.bytes, reader.new.rest.now))
-        (λ f. mac.read reader.old.rest.now ≡ Err f) }
-{
-    let Some(part) = reader.part(32) else {
-        return Err(Fault::Shape);
-    };
-    let mut bytes = [0; 32];
-    bytes.copy_from_slice(part);
-    Ok(Mac::new(bytes))
+impl Coded for Mac {
+    ghost View = { Bytes };
+
+    ghost view = { λ m. m.bytes };
+
+    ghost format = { mac };
+
+    fn read(reader: &mut Reader<'_>) -> Result<Mac, Fault> {
+        let part = reader.part(32).ok_or(Fault::Shape)?;
+        Ok(Mac::new(*part.first_chunk().unwrap()))
+    }
+
+    fn write(&self, out: &mut Vec<u8>) -> Result<(), AllocError> {
+        out.extend_from_slice(&self.bytes())
+    }
 }

@@ -1,127 +1,100 @@
 // Each kind of thing: a ticket, a yes, a tied yes as it is shown and as it is passed on, a key.
-ghost use Rattle.codec.specs.Things.{ticket, yes, tied, passed, key};
-ghost use Rattle.std.specs.Prelude.{◌≡◌, Ok, Err};
-ghost use Rattle.tickets.specs.Views.{ticket_body, ticket_view, yes_view, tied_view};
+ghost use Rattle.codec.specs.Things.{maced, tied, passed, key};
+ghost use Rattle.narrow.specs.Term.{Bytes};
+ghost use Rattle.narrow.specs.Ticket as model;
+ghost use Rattle.std.specs.Prelude.{ℕ};
+ghost use Rattle.tickets.specs.Making.{Maced, Tied};
+ghost use Rattle.tickets.specs.Views.{ticket_body, maced_view, tied_view};
 
-use crate::Coded;
-use crate::bodies::{read_yes_body, yes_body_bytes};
-use crate::fields::{read_key_number, read_kind, read_mac};
-use lines::Fault;
-use numbers::Number;
+use crate::bodies::{read_content, write_content};
+use crate::coded::Coded;
+use crate::fields::read_kind;
+use crate::kind::Kind;
+use hmac::Mac;
+use lines::{Fault, KeyNumber};
 use rows::Reader;
-use std::alloc::{AllocError, Global};
-use tickets::{PassedYes, Ticket, TicketBody, TiedYes, Yes, YesKey};
+use std::alloc::AllocError;
+use tickets::{PassedYes, TicketBody, TiedYes, WithMac, YesKey};
 
-const YES_KIND: u8 = 17;
+/// Tickets and yeses: a body, and its MAC.
+impl<B: Coded + Drop> Coded for WithMac<B> {
+    ghost View = { Maced B.View };
 
-const TIED_KIND: u8 = 18;
+    ghost view = { maced_view B.view };
 
-const PASSED_KIND: u8 = 19;
+    ghost format = { maced B.format };
 
-pub const KEY_KIND: u8 = 20;
-
-impl Coded for Ticket {
-    ghost reads = { λ bs t rest. ticket.read bs ≡ Ok (ticket_view t, rest) };
-
-    ghost faulty = { λ bs f. ticket.read bs ≡ Err f };
-
-    ghost written = { λ t. ticket.write (ticket_view t) };
-
-    fn read(reader: &mut Reader<'_>) -> Result<Ticket, Fault> {
-        let body = TicketBody::read(reader)?;
-        let mac = read_mac(reader)?;
-        Ok(Ticket { body, mac })
+    fn read(reader: &mut Reader<'_>) -> Result<WithMac<B>, Fault> {
+        let body = B::read(reader)?;
+        let mac = Mac::read(reader)?;
+        Ok(WithMac { body, mac })
     }
 
-    fn to_bytes(&self, heap: Global) -> Result<Vec<u8>, AllocError> {
-        let mut out = self.body.to_bytes(heap)?;
-        out.extend_from_slice(&self.mac.bytes())?;
-        Ok(out)
-    }
-}
-
-impl Coded for Yes {
-    ghost reads = { λ bs y rest. yes.read bs ≡ Ok (yes_view y, rest) };
-
-    ghost faulty = { λ bs f. yes.read bs ≡ Err f };
-
-    ghost written = { λ y. yes.write (yes_view y) };
-
-    fn read(reader: &mut Reader<'_>) -> Result<Yes, Fault> {
-        let body = read_yes_body(reader, YES_KIND)?;
-        let mac = read_mac(reader)?;
-        Ok(Yes { body, mac })
-    }
-
-    fn to_bytes(&self, heap: Global) -> Result<Vec<u8>, AllocError> {
-        let mut out = yes_body_bytes(heap, YES_KIND, &self.body)?;
-        out.extend_from_slice(&self.mac.bytes())?;
-        Ok(out)
+    fn write(&self, out: &mut Vec<u8>) -> Result<(), AllocError> {
+        self.body.write(out)?;
+        self.mac.write(out)
     }
 }
 
 impl Coded for TiedYes {
-    ghost reads = { λ bs y rest. tied.read bs ≡ Ok (tied_view y, rest) };
+    ghost View = { Tied };
 
-    ghost faulty = { λ bs f. tied.read bs ≡ Err f };
+    ghost view = { tied_view };
 
-    ghost written = { λ y. tied.write (tied_view y) };
+    ghost format = { tied };
 
     fn read(reader: &mut Reader<'_>) -> Result<TiedYes, Fault> {
-        let body = read_yes_body(reader, TIED_KIND)?;
-        let tie = read_mac(reader)?;
+        read_kind(reader, Kind::Tied as u8)?;
+        let body = read_content(reader)?;
+        let tie = Mac::read(reader)?;
         Ok(TiedYes { body, tie })
     }
 
-    fn to_bytes(&self, heap: Global) -> Result<Vec<u8>, AllocError> {
-        let mut out = yes_body_bytes(heap, TIED_KIND, &self.body)?;
-        out.extend_from_slice(&self.tie.bytes())?;
-        Ok(out)
+    fn write(&self, out: &mut Vec<u8>) -> Result<(), AllocError> {
+        out.push(Kind::Tied as u8)?;
+        write_content(out, &self.body)?;
+        self.tie.write(out)
     }
 }
 
 impl Coded for PassedYes {
-    ghost reads = { λ bs p rest. passed.read bs ≡ Ok ((ticket_body p.ticket, tied_view p.yes), rest) };
+    ghost View = { model.Ticket × Tied };
 
-    ghost faulty = { λ bs f. passed.read bs ≡ Err f };
+    ghost view = { λ p. (ticket_body p.ticket, tied_view p.yes) };
 
-    ghost written = { λ p. passed.write (ticket_body p.ticket, tied_view p.yes) };
+    ghost format = { passed };
 
     fn read(reader: &mut Reader<'_>) -> Result<PassedYes, Fault> {
-        read_kind(reader, PASSED_KIND)?;
+        read_kind(reader, Kind::Passed as u8)?;
         let ticket = TicketBody::read(reader)?;
         let yes = TiedYes::read(reader)?;
         Ok(PassedYes { ticket, yes })
     }
 
-    fn to_bytes(&self, heap: Global) -> Result<Vec<u8>, AllocError> {
-        let mut out = Vec::new(heap);
-        out.push(PASSED_KIND)?;
-        out.extend_from_slice(self.ticket.to_bytes(heap)?.as_slice())?;
-        out.extend_from_slice(self.yes.to_bytes(heap)?.as_slice())?;
-        Ok(out)
+    fn write(&self, out: &mut Vec<u8>) -> Result<(), AllocError> {
+        out.push(Kind::Passed as u8)?;
+        self.ticket.write(out)?;
+        self.yes.write(out)
     }
 }
 
 impl Coded for YesKey {
-    ghost reads = { λ bs k rest. key.read bs ≡ Ok ((k.number.number, k.secret.bytes), rest) };
+    ghost View = { ℕ × Bytes };
 
-    ghost faulty = { λ bs f. key.read bs ≡ Err f };
+    ghost view = { λ k. (k.number.number, k.secret.bytes) };
 
-    ghost written = { λ k. key.write (k.number.number, k.secret.bytes) };
+    ghost format = { key };
 
     fn read(reader: &mut Reader<'_>) -> Result<YesKey, Fault> {
-        read_kind(reader, KEY_KIND)?;
-        let number = read_key_number(reader)?;
-        let secret = read_mac(reader)?;
+        read_kind(reader, Kind::Key as u8)?;
+        let number = KeyNumber::read(reader)?;
+        let secret = Mac::read(reader)?;
         Ok(YesKey { number, secret })
     }
 
-    fn to_bytes(&self, heap: Global) -> Result<Vec<u8>, AllocError> {
-        let mut out = Vec::new(heap);
-        out.push(KEY_KIND)?;
-        out.extend_from_slice(&self.number.get().to_bytes())?;
-        out.extend_from_slice(&self.secret.bytes())?;
-        Ok(out)
+    fn write(&self, out: &mut Vec<u8>) -> Result<(), AllocError> {
+        out.push(Kind::Key as u8)?;
+        self.number.write(out)?;
+        self.secret.write(out)
     }
 }

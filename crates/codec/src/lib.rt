@@ -2,45 +2,26 @@
 #![tactic(auto)]
 
 ghost use Rattle.codec.specs.Laws.{FormatsExact};
-ghost use Rattle.codec.specs.Whole.{LeftOver};
-ghost use Rattle.lines.specs.declared.Fault.{Fault};
-ghost use Rattle.narrow.specs.Term.{Bytes};
-ghost use Rattle.std.specs.Prelude.{◌≡◌, ◌⊎◌, [], IfOk, MatchResult};
+ghost use Rattle.codec.specs.Whole.{Reads, LeftOver};
+ghost use Rattle.std.specs.Prelude.{◌≡◌, ◌⊎◌, [], Err, MatchResult};
 
 mod bodies;
+mod coded;
 mod fields;
+mod kind;
 mod kinds;
 
-pub use fields::{read_key_number, read_kind, read_mac};
-pub use kinds::KEY_KIND;
+pub use coded::{Coded, write_all};
+pub use fields::read_kind;
+pub use kind::Kind;
 use lines::Fault;
 use rows::Reader;
-use std::alloc::{AllocError, Global};
-
-/// What has a format: it is read from the front of what a reader has left, and written.
-pub trait Coded {
-    // these bytes are read as this, and those follow
-    ghost reads: { Bytes → Self → Bytes → Type 0 };
-
-    // these bytes have this fault
-    ghost faulty: { Bytes → Fault → Type 0 };
-
-    // its bytes
-    ghost written: { Self → Bytes };
-
-    /// After a fault the reader stands anywhere behind where it stood.
-    fn read(reader: &mut Reader<'_>) -> Result<Self, Fault>
-    where
-        Self: Sized,
-        ensures { MatchResult result (λ x. reads reader.old.rest.now x reader.new.rest.now) (λ f. faulty reader.old.rest.now f) };
-
-    fn to_bytes(&self, heap: Global) -> Result<Vec<u8>, AllocError>
-        ensures { IfOk result (λ v. v.items ≡ written self.now) };
-}
 
 /// Reads what these bytes are as a whole. Bytes left over are the fault `Shape`.
 pub fn from_bytes<T: Coded + Drop>(bytes: &[u8]) -> Result<T, Fault>
-    ensures { MatchResult result (λ x. T.reads bytes.now x []) (λ f. T.faulty bytes.now f ⊎ LeftOver T.reads bytes.now f) }
+    ensures { MatchResult result
+        (λ x. Reads T.format T.view bytes.now x [])
+        (λ f. (T.format.read bytes.now ≡ Err f) ⊎ LeftOver (Reads T.format T.view) bytes.now f) }
 {
     let mut reader = Reader::new(bytes);
     let value = T::read(&mut reader)?;

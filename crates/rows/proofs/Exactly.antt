@@ -1,5 +1,6 @@
 -- What is written of a row of lines is read back, and only that; and a fault is told whatever follows. Assumes nothing.
 use Rattle.std.proofs.Common.{◌≡◌, ℕ, zero, suc, ◌+◌, ◌≤◌, Bool, true, false, cond, ltb, ◌⊎◌, List, [], ◌∷◌, ◌++◌, length, take, drop, Ok, Err, Result, sym, refl, ap, ◌∙◌, inl, inr, append_assoc, append-nil, arith, take-append-drop, length-take, ltb-false}
+use Rattle.std.specs.Result.{result_map_both}
 use Rattle.std.proofs.lemmas.List.{length_push}
 use Rattle.std.proofs.lemmas.Bool.{and_parts, and_from, cond-true, cond-false}
 use Rattle.narrow.specs.Rows.{all}
@@ -23,6 +24,11 @@ next_value (Err f) k y e = contradiction (cc)
 pub next_fault : {A B : Type 0} (r : Result A Fault) (k : A → Result B Fault) (f : Fault) → next r k ≡ Err f → (r ≡ Err f) ⊎ ((x : A) × (r ≡ Ok x) × (k x ≡ Err f))
 next_fault (Ok x) k f e = inr (x, refl, e)
 next_fault (Err g) k f e = inl (cc)
+
+-- a result that was mapped to a value is that of some value
+pub mapped_value : {A B : Type 0} {g : A → B} (r : Result A Fault) (y : B) → result_map_both g (λ f. f) r ≡ Ok y → (x : A) × (r ≡ Ok x) × (g x ≡ y)
+mapped_value (Ok x) y e = (x, refl, cc)
+mapped_value (Err f) y e = contradiction (cc)
 
 -- what a step comes to, by what came before
 pub next_on : {A B : Type 0} (r : Result A Fault) (k : A → Result B Fault) (x : A) → r ≡ Ok x → next r k ≡ k x

@@ -1,8 +1,11 @@
 -- Reading a row, step by step. Assumes nothing.
-use Rattle.std.proofs.Common.{◌≡◌, ℕ, zero, suc, ◌-◌, ◌<◌, ◌≤◌, ltb, List, [], ◌∷◌, ◌++◌, length, take, drop, Some, None, Ok, Err, Option, Result, sym, refl, ap, ◌∙◌, subst, arith, length-append, MatchOption}
+use Rattle.std.proofs.Common.{◌≡◌, ℕ, zero, suc, ◌-◌, ◌<◌, ◌≤◌, ltb, List, [], ◌∷◌, ◌++◌, length, take, drop, Some, None, Ok, Err, Option, Result, sym, refl, ap, ◌∙◌, subst, arith, length-append, MatchOption, MatchResult}
 use Rattle.std.proofs.lemmas.List.{take_at, drop_at}
+use Rattle.std.proofs.lemmas.Option.{MatchOption-at_none}
 use Rattle.std.proofs.lemmas.Bool.{cond-true, cond-false, lt-ltb, le-ltb}
+use Rattle.std.specs.Option.{ok_or}
 use Rattle.narrow.specs.Term.{Bytes}
+use Rattle.narrow.proofs.Rows.{contradiction}
 use Rattle.lines.specs.declared.Fault.{Fault}
 use Rattle.lines.specs.declared.Fault.TheVariants.{Shape, TooMany}
 use Rattle.lines.specs.declared.Place.{Place}
@@ -13,6 +16,21 @@ use Rattle.rows.specs.Rowing.{next, part_at, lines_from, row_at}
 pub some_weaker : {A : Type 0} (o : Option A) {P P' : Type 0} {Q Q' : A → Type 0} → MatchOption o P Q → (P → P') → ((x : A) → Q x → Q' x) → MatchOption o P' Q'
 some_weaker None h f g = f h
 some_weaker (Some x) h f g = g x h
+
+-- nothing was there, and a fault stands in its place
+pub absent : {A : Type 0} (o : Option A) (f g : Fault) → Err g ≡ ok_or o f → (o ≡ None) × (f ≡ g)
+absent (Some x) f g e = contradiction (cc)
+absent None f g e = (refl, cc)
+
+-- the same with what is known of an option
+pub wanting : {A : Type 0} (o : Option A) (P : Type 0) (Q : A → Type 0) (f g : Fault) → Err g ≡ ok_or o f → MatchOption o P Q → P × (f ≡ g)
+wanting o P Q f g e h = let (none, same) = absent o f g e in (MatchOption-at_none P Q none h, same)
+
+-- a fault in the place of what is not there, returned as it is
+pub wanted : {A : Type 0} (o : Option A) (f : Fault) (r : Result A Fault) {P : Type 0} {Q : A → Type 0} (P' : Fault → Type 0) (Q' : A → Type 0) →
+    r ≡ ok_or o f → MatchOption o P Q → (P → P' f) → ((x : A) → Q x → Q' x) → MatchResult r Q' P'
+wanted None f r P' Q' e h missing found = subst (λ (q : Result _ Fault). MatchResult q Q' P') (sym e) (missing h)
+wanted (Some x) f r P' Q' e h missing found = subst (λ (q : Result _ Fault). MatchResult q Q' P') (sym e) (found x h)
 
 pub part_none : (bs : Bytes) → length bs < 1 → part_at bs ≡ Err Shape
 part_none [] h = refl

@@ -3,3 +3,4 @@ pub mod Standing
 pub mod Row
 pub mod Each
 pub mod Rowing
+pub mod Due

@@ -1,5 +1,6 @@
 // Making a row longer, and its lines.
-ghost use Rattle.std.specs.Prelude.{◌≡◌, ℕ, ◌+◌, ◌<◌, ◌≤◌, List, [], ◌∷◌, ◌++◌, length, drop, Ok, Err, MatchOption, MatchResult, slice_index_or};
+ghost use Rattle.std.specs.Prelude.{◌≡◌, ℕ, ◌+◌, ◌<◌, ◌≤◌, List, [], ◌∷◌, ◌++◌, length, drop, MatchOption, slice_index_or};
+ghost use Rattle.rows.specs.Due.{ChangedAs};
 ghost use Rattle.rows.specs.Row.{rows};
 ghost use Rattle.rows.specs.Standing.{most_at, pushed};
 ghost use Rattle.rows.specs.Wire.{wire};
@@ -59,9 +60,7 @@ impl Lines {
 
     /// One line more, at the end. Where it can't be read, may not stand here, or the row is full, nothing changes.
     pub fn push(&mut self, line: &[u8]) -> Result<(), Fault>
-        ensures added { MatchResult result
-            (λ _. pushed self.old.place (rows self.old) line.now ≡ Ok (rows self.new))
-            (λ f. (pushed self.old.place (rows self.old) line.now ≡ Err f) × (self.new ≡ self.old)) }
+        ensures added { ChangedAs rows (pushed self.old.place (rows self.old) line.now) self.old result self.new }
         ensures place { self.new.place ≡ self.old.place }
     {
         let read = read_line(line)?;

@@ -6,6 +6,7 @@ mod each;
 mod reader;
 mod reading;
 mod row;
+mod same;
 
 pub use adding::most_lines;
 pub use each::Each;

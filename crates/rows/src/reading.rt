@@ -1,6 +1,7 @@
 // Reading a row of lines.
-ghost use Rattle.std.specs.Prelude.{◌≡◌, Ok, Err, MatchOption, MatchResult};
+ghost use Rattle.std.specs.Prelude.{◌≡◌, Ok, Err, IfOk, MatchOption};
 ghost use Rattle.lines.specs.declared.Fault.TheVariants.{Shape};
+ghost use Rattle.rows.specs.Due.{ReadAs};
 ghost use Rattle.rows.specs.Row.{rows};
 ghost use Rattle.rows.specs.Rowing.{part_at, row_at};
 
@@ -22,21 +23,16 @@ impl<'a> Reader<'a> {
 
     /// A row of lines: a count, and each line behind its length.
     pub fn row(&mut self, place: Place) -> Result<Lines, Fault>
-        ensures { MatchResult result
-            (λ ls. (row_at place self.old.rest.now ≡ Ok (rows ls, self.new.rest.now)) × (ls.place ≡ place))
-            (λ f. row_at place self.old.rest.now ≡ Err f) }
+        ensures read { ReadAs (row_at place) rows self.old.rest.now result self.new.rest.now }
+        ensures place { IfOk result (λ ls. ls.place ≡ place) }
     {
-        let Some(count) = self.byte() else {
-            return Err(Fault::Shape);
-        };
+        let count = self.byte().ok_or(Fault::Shape)?;
         if count as usize > most_lines(place) {
             return Err(Fault::TooMany);
         }
         let mut lines = Lines::new(place);
         for _ in 0..count {
-            let Some(line) = self.counted() else {
-                return Err(Fault::Shape);
-            };
+            let line = self.counted().ok_or(Fault::Shape)?;
             lines.push(line)?;
         }
         Ok(lines)

@@ -7,7 +7,7 @@ ghost use Rattle.rows.specs.Standing.{most_at, stands};
 use lines::Place;
 
 /// A row of lines, each behind its length as it is carried, and where each ends: line i, with its length, stands between the marks i and
-/// i + 1.
+/// i + 1. A ticket takes no heap, so they stand in arrays.
 #[derive(Clone, Copy)]
 pub struct Lines {
     pub(crate) place: Place,

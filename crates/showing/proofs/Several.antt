@@ -1,5 +1,5 @@
 -- Several things of one format, read and written one by one. Assumes nothing.
-use Rattle.std.proofs.Common.{◌≡◌, ℕ, zero, suc, ◌-◌, ◌<◌, ◌≤◌, ltb, List, [], ◌∷◌, ◌++◌, length, take, drop, Some, None, Ok, Err, Option, Result, sym, refl, ap, ◌∙◌, append_assoc, append-nil, arith}
+use Rattle.std.proofs.Common.{◌≡◌, ℕ, zero, suc, ◌-◌, ◌<◌, ◌≤◌, ltb, List, [], ◌∷◌, ◌++◌, length, take, drop, Some, None, Ok, Err, Option, Result, sym, refl, ap, ◌∙◌, IsSome, append_assoc, append-nil, arith}
 use Rattle.std.proofs.lemmas.Bool.{cond-true, cond-false, lt-ltb, le-ltb}
 use Rattle.std.proofs.lemmas.List.{take_at}
 use Rattle.narrow.specs.Term.{Bytes}
@@ -8,7 +8,7 @@ use Rattle.lines.specs.declared.Fault.{Fault}
 use Rattle.lines.specs.declared.Fault.TheVariants.{Shape, TooMany}
 use Rattle.rows.specs.Rowing.{next}
 use Rattle.rows.proofs.Exactly.{next_on, next_stop}
-use Rattle.codec.specs.Format.{Format, read_several, write_several, read_counted, counted}
+use Rattle.codec.specs.Format.{Format, read_several, read_counted, counted}
 
 -- what was read before, and then what is read
 abbrev pub after : {A : Type 0} → List A → Result (List A × Bytes) Fault → Result (List A × Bytes) Fault
@@ -58,24 +58,24 @@ module _ {A : Type 0} (f : Format A) (most : ℕ) (bs : Bytes) where
     unfolding counted
     count_on h = ap (read_counted most f.read) e ∙ cond-false (ltb most n) _ _ (le-ltb most n h)
 
-pub several_push : {A : Type 0} (f : A → Bytes) (xs : List A) (y : A) → write_several f (xs ++ y ∷ []) ≡ write_several f xs ++ f y
-unfolding write_several
-several_push f [] y = append-nil (f y)
-several_push f (x ∷ xs) y = ap (λ (b : Bytes). f x ++ b) (several_push f xs y) ∙ sym (append_assoc (f x) (write_several f xs) (f y))
-
 -- what was written over a room of just its size
 pub written_all : (bs before now : Bytes) (r : Option ℕ) (size : ℕ) (behind : Bytes) → WritesFront bs before now r → length before ≡ length bs → size ≡ length bs → take size (now ++ behind) ≡ bs
 written_all bs before now None size behind (h, e) same is = absurd (omega arith)
 written_all bs before now (Some n) size behind (h, fits, e) same is =
     ap (λ (b : Bytes). take size (b ++ behind)) e ∙ (ap (take size) (append_assoc bs (drop n before) behind) ∙ take_at bs (drop n before ++ behind) size (sym is))
 
+-- there is room for what is written into just its size
+pub written_whole : (bs before now : Bytes) (r : Option ℕ) → WritesFront bs before now r → length before ≡ length bs → IsSome r
+written_whole bs before now None (h, e) same = absurd (omega arith)
+written_whole bs before now (Some n) h same = refl
+
 -- a kind, a part, another, then a count and what follows it, laid down one after the other
-pub laid_shown : (out0 out1 out2 out3 out4 out5 : Bytes) (k n n' : ℕ) (one one' two two' three three' : Bytes) → out0 ≡ [] → out1 ≡ out0 ++ k ∷ [] →
-    out2 ≡ out1 ++ one' → one' ≡ one → out3 ≡ out2 ++ two' → two' ≡ two → out4 ≡ out3 ++ n' ∷ [] → n' ≡ n → out5 ≡ out4 ++ three' → three' ≡ three →
+pub laid_shown : (out0 out1 out2 out3 out4 out5 : Bytes) (k n n' : ℕ) (one one' two three : Bytes) → out0 ≡ [] → out1 ≡ out0 ++ k ∷ [] →
+    out2 ≡ out1 ++ one' → one' ≡ one → out3 ≡ out2 ++ two → out4 ≡ out3 ++ n' ∷ [] → n' ≡ n → out5 ≡ out4 ++ three →
     out5 ≡ k ∷ (one ++ (two ++ (n ∷ three)))
-laid_shown out0 out1 out2 out3 out4 out5 k n n' one one' two two' three three' e0 e1 e2 i2 e3 i3 e4 i4 e5 i5 =
+laid_shown out0 out1 out2 out3 out4 out5 k n n' one one' two three e0 e1 e2 i2 e3 e4 i4 e5 =
     let first : out1 ≡ k ∷ [] = e1 ∙ ap (λ (b : Bytes). b ++ k ∷ []) e0 in
     let second : out2 ≡ k ∷ one = e2 ∙ λ i. first i ++ i2 i in
-    let third : out3 ≡ k ∷ (one ++ two) = e3 ∙ λ i. second i ++ i3 i in
+    let third : out3 ≡ k ∷ (one ++ two) = e3 ∙ ap (λ (b : Bytes). b ++ two) second in
     let fourth : out4 ≡ k ∷ ((one ++ two) ++ n ∷ []) = e4 ∙ λ i. third i ++ i4 i ∷ [] in
-    e5 ∙ ((λ i. fourth i ++ i5 i) ∙ ap (λ (b : Bytes). k ∷ b) (append_assoc (one ++ two) (n ∷ []) three ∙ append_assoc one two (n ∷ three)))
+    e5 ∙ (ap (λ (b : Bytes). b ++ three) fourth ∙ ap (λ (b : Bytes). k ∷ b) (append_assoc (one ++ two) (n ∷ []) three ∙ append_assoc one two (n ∷ three)))

@@ -1,4 +1,3 @@
 pub mod Showing
 pub mod Views
-pub mod Reading
 pub mod Laws

@@ -4,18 +4,17 @@
 ghost use Rattle.codec.specs.Format.{counted};
 ghost use Rattle.codec.specs.Things.{tied};
 ghost use Rattle.narrow.specs.Policy.{most_yeses};
-ghost use Rattle.narrow.specs.Term.{Bytes};
 ghost use Rattle.showing.specs.Laws.{ShownExact};
 ghost use Rattle.showing.specs.Showing.{shown, shown_of};
 ghost use Rattle.showing.specs.Views.{shown_view, Told};
-ghost use Rattle.showing.specs.Reading.{Yeses};
-ghost use Rattle.std.specs.Prelude.{◌≡◌};
+ghost use Rattle.std.specs.Prelude.{◌≤◌, map, vec_len, IfOk};
+ghost use Rattle.tickets.specs.Views.{tied_view};
 
 mod shown;
 mod unread;
 mod writing;
 
-use codec::Coded;
+use codec::{Coded, Kind};
 use lines::Fault;
 use rows::Reader;
 pub use shown::Shown;
@@ -24,30 +23,21 @@ use tickets::{Ticket, TiedYes};
 pub use unread::Unread;
 use wishes::read_wish;
 
-const SHOWN_KIND: u8 = 22;
-
 /// Reads what is shown from these bytes as a whole, to its end or its first fault. Whether the wish is in range is asked last.
 pub fn read_shown(heap: Global, bytes: &[u8]) -> Result<Shown, Unread>
     ensures { Told shown_view (shown_of bytes.now) result }
 {
-    let [kind, rest @ ..] = bytes else {
-        return Err(Unread::Bad(Fault::Shape));
-    };
-    if *kind != SHOWN_KIND {
-        return Err(Unread::Bad(Fault::Shape));
-    }
-    let Some((raw, rest)) = read_wish(rest) else {
-        return Err(Unread::Bad(Fault::Shape));
-    };
+    let rest = bytes
+        .strip_prefix(&[Kind::Shown as u8])
+        .ok_or(Fault::Shape)?;
+    let (raw, rest) = read_wish(rest).ok_or(Fault::Shape)?;
     let mut reader = Reader::new(rest);
     let ticket = Ticket::read(&mut reader)?;
     let yeses = read_yeses(heap, &mut reader)?;
     if !reader.is_empty() {
         return Err(Unread::Bad(Fault::Shape));
     }
-    let Some(wish) = raw.in_range() else {
-        return Err(Unread::Bad(Fault::Range));
-    };
+    let wish = raw.in_range().ok_or(Fault::Range)?;
     Ok(Shown {
         wish,
         ticket,
@@ -57,15 +47,15 @@ pub fn read_shown(heap: Global, bytes: &[u8]) -> Result<Shown, Unread>
 
 // A count, and so many tied yeses.
 fn read_yeses(heap: Global, reader: &mut Reader<'_>) -> Result<Vec<TiedYes>, Unread>
-    ensures { Yeses ((counted most_yeses tied).read reader.old.rest.now) result reader.new.rest.now }
+    ensures read { Told (λ v. (map tied_view v.items, reader.new.rest.now)) ((counted most_yeses tied).read reader.old.rest.now) result }
+    ensures few { IfOk result (λ v. vec_len v ≤ 32) }
 {
-    let Some(count) = reader.byte() else {
-        return Err(Unread::Bad(Fault::Shape));
-    };
+    let count = reader.byte().ok_or(Fault::Shape)?;
     if count > 32 {
         return Err(Unread::Bad(Fault::TooMany));
     }
     let mut yeses = Vec::new(heap);
+    // A chain that is collected into a `Result` doesn't say at which fault it stops.
     for _ in 0..count {
         let yes = TiedYes::read(reader)?;
         yeses.push(yes)?;

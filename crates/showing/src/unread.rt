@@ -4,10 +4,9 @@ ghost use Rattle.std.specs.Prelude.{◌≡◌};
 
 use lines::Fault;
 use std::alloc::{AllocError, AllocFailed};
-use tickets::TiedYes;
 
 /// Its bytes have a fault, or there was no memory for it.
-#[derive(Clone, Copy)]
+#[derive(Clone, Copy, PartialEq, Eq, Debug)]
 pub enum Unread {
     Bad(Fault),
     NoMemory,
@@ -29,10 +28,10 @@ impl From<AllocError> for Unread {
     }
 }
 
-impl From<AllocFailed<TiedYes>> for Unread {
+impl<T: Drop> From<AllocFailed<T>> for Unread {
     ghost from_gives = { λ _ u. u ≡ NoMemory };
 
-    fn from(_refused: AllocFailed<TiedYes>) -> Unread {
+    fn from(_refused: AllocFailed<T>) -> Unread {
         Unread::NoMemory
     }
 }

@@ -1,4 +1,6 @@
 // Written by vectors.py: the MACs are from Python's hmac, which calls OpenSSL.
+use codec::Kind;
+use lines::Fault;
 
 // The house's key.
 pub const HOUSE: [u8; 32] =
@@ -40,54 +42,118 @@ pub const PASSED: &[u8] =
         \x02\x00\x0a\x00\x14\x51\xbe\xc3\xab\xcd\xa7\xf0\x8e\xba\x13\x91\x9a\x00\xa5\x22\xfb\x7f\x39\x87\
         \xc7\xc2\x80\x09\x74\x4a\x8b\x75\xaf\x35\x8d\x76\x6b";
 
-// The kind that is looked for, bytes to which 32 more are added, and what is told of them all: 0 if they are read, else the number of the fault.
-pub const TOLD: [(u8, &[u8], u8); 29] = [
+// The kind that is looked for, bytes to which 32 more are added, and the fault that is told of them all, if they aren't read.
+pub const TOLD: [(Kind, &[u8], Option<Fault>); 29] = [
     // how many lines
-    (16, b"\x10\x00\x00\x00\x07\x00", 2),
-    (16, b"\x10\x00\x00\x00\x07\x01\x02\x04\x02", 0),
-    (16, b"\x10\x00\x00\x00\x07\x21", 3),
-    (19, b"\x13\x10\x00\x00\x00\x07\x00\x12\x00\x05\x00", 2),
     (
-        19,
+        Kind::Ticket,
+        b"\x10\x00\x00\x00\x07\x00",
+        Some(Fault::Unreadable),
+    ),
+    (Kind::Ticket, b"\x10\x00\x00\x00\x07\x01\x02\x04\x02", None),
+    (
+        Kind::Ticket,
+        b"\x10\x00\x00\x00\x07\x21",
+        Some(Fault::TooMany),
+    ),
+    (
+        Kind::Passed,
+        b"\x13\x10\x00\x00\x00\x07\x00\x12\x00\x05\x00",
+        Some(Fault::Unreadable),
+    ),
+    (
+        Kind::Passed,
         b"\x13\x10\x00\x00\x00\x07\x01\x02\x04\x02\x12\x00\x05\x00",
-        0,
+        None,
     ),
-    (19, b"\x13\x10\x00\x00\x00\x07\x21", 3),
+    (
+        Kind::Passed,
+        b"\x13\x10\x00\x00\x00\x07\x21",
+        Some(Fault::TooMany),
+    ),
     // how many limits
-    (17, b"\x11\x00\x05\x00", 0),
-    (17, b"\x11\x00\x05\x11", 3),
-    (18, b"\x12\x00\x05\x11", 3),
+    (Kind::Yes, b"\x11\x00\x05\x00", None),
+    (Kind::Yes, b"\x11\x00\x05\x11", Some(Fault::TooMany)),
+    (Kind::Tied, b"\x12\x00\x05\x11", Some(Fault::TooMany)),
     // each line
-    (16, b"\x10\x00\x00\x00\x07\x01\x00", 1),
-    (16, b"\x10\x00\x00\x00\x07\x01\x02\x07\x00", 1),
-    (16, b"\x10\x00\x00\x00\x07\x01\x02\x01\x00", 2),
-    (16, b"\x10\x00\x00\x00\x07\x02\x02\x04\x02\x01\x04", 2),
-    (16, b"\x10\x00\x00\x00\x07\x01\x21", 1),
-    (17, b"\x11\x00\x05\x01\x03\x06\x00\x05", 2),
-    (18, b"\x12\x00\x05\x02\x02\x04\x02\x03\x06\x00\x05", 2),
+    (
+        Kind::Ticket,
+        b"\x10\x00\x00\x00\x07\x01\x00",
+        Some(Fault::Shape),
+    ),
+    (
+        Kind::Ticket,
+        b"\x10\x00\x00\x00\x07\x01\x02\x07\x00",
+        Some(Fault::Shape),
+    ),
+    (
+        Kind::Ticket,
+        b"\x10\x00\x00\x00\x07\x01\x02\x01\x00",
+        Some(Fault::Unreadable),
+    ),
+    (
+        Kind::Ticket,
+        b"\x10\x00\x00\x00\x07\x02\x02\x04\x02\x01\x04",
+        Some(Fault::Unreadable),
+    ),
+    (
+        Kind::Ticket,
+        b"\x10\x00\x00\x00\x07\x01\x21",
+        Some(Fault::Shape),
+    ),
+    (
+        Kind::Yes,
+        b"\x11\x00\x05\x01\x03\x06\x00\x05",
+        Some(Fault::Unreadable),
+    ),
+    (
+        Kind::Tied,
+        b"\x12\x00\x05\x02\x02\x04\x02\x03\x06\x00\x05",
+        Some(Fault::Unreadable),
+    ),
     // the number of a key
-    (17, b"\x11\x0f\xff\x00", 0),
-    (17, b"\x11\x10\x00\x00", 2),
-    (18, b"\x12\x10\x00\x00", 2),
-    (20, b"\x14\x0f\xff", 0),
-    (20, b"\x14\x10\x00", 2),
+    (Kind::Yes, b"\x11\x0f\xff\x00", None),
+    (Kind::Yes, b"\x11\x10\x00\x00", Some(Fault::Unreadable)),
+    (Kind::Tied, b"\x12\x10\x00\x00", Some(Fault::Unreadable)),
+    (Kind::Key, b"\x14\x0f\xff", None),
+    (Kind::Key, b"\x14\x10\x00", Some(Fault::Unreadable)),
     // another kind
-    (16, b"\x11\x00\x05\x01\x02\x04\x02", 1),
-    (17, b"\x12\x00\x05\x01\x02\x04\x02", 1),
-    (18, b"\x11\x00\x05\x01\x02\x04\x02", 1),
-    (19, b"\x12\x00\x05\x01\x02\x04\x02", 1),
-    (19, b"\x13\x12\x00\x05\x01\x02\x04\x02", 1),
     (
-        19,
+        Kind::Ticket,
+        b"\x11\x00\x05\x01\x02\x04\x02",
+        Some(Fault::Shape),
+    ),
+    (
+        Kind::Yes,
+        b"\x12\x00\x05\x01\x02\x04\x02",
+        Some(Fault::Shape),
+    ),
+    (
+        Kind::Tied,
+        b"\x11\x00\x05\x01\x02\x04\x02",
+        Some(Fault::Shape),
+    ),
+    (
+        Kind::Passed,
+        b"\x12\x00\x05\x01\x02\x04\x02",
+        Some(Fault::Shape),
+    ),
+    (
+        Kind::Passed,
+        b"\x13\x12\x00\x05\x01\x02\x04\x02",
+        Some(Fault::Shape),
+    ),
+    (
+        Kind::Passed,
         b"\x13\x10\x00\x00\x00\x07\x03\x04\x01\x02\x03\x04\x03\x06\x00\x05\x02\x04\x02",
-        1,
+        Some(Fault::Shape),
     ),
     (
-        19,
+        Kind::Passed,
         b"\x13\x10\x00\x00\x00\x07\x03\x04\x01\x02\x03\x04\x03\x06\x00\x05\x02\x04\x02\x11\x00\x05\x00",
-        1,
+        Some(Fault::Shape),
     ),
-    (20, b"\x15\x00\x05", 1),
+    (Kind::Key, b"\x15\x00\x05", Some(Fault::Shape)),
 ];
 
 // Two tickets without their MACs; whether they are the same, and whether the first is the second with lines added.

@@ -1,11 +1,11 @@
 use super::tables::{HOUSE, KEY, PAIRS, PASSED, TICKETS, TIED, TOLD, YESES};
-use codec::{Coded, from_bytes};
+use codec::{Coded, Kind, from_bytes};
 use hmac::Mac;
 use lines::Fault;
 use std::alloc::Global;
 use std::process::Abort;
 use std::test::Fail;
-use tickets::{PassedYes, Ticket, TicketBody, TiedYes, Yes, YesKey};
+use tickets::{Body, PassedYes, Ticket, TicketBody, TiedYes, WithMac, Yes, YesKey};
 
 const MUSEUMS: &[u8] = b"\x01\x02\x03\x04";
 
@@ -15,27 +15,26 @@ const PERSONS: &[u8] = b"\x04\x02";
 
 const ELSE: &[u8] = b"\x06\x00\x05";
 
-// A line, and what is told of adding it to a ticket, a full ticket, a yes and a full yes: 0 if it is added, else the number of the fault.
-const ADDED: [(&[u8], u8, u8, u8, u8); 5] = [
-    (PERSONS, 0, 3, 0, 3),
-    (ELSE, 0, 3, 2, 2),
-    (b"", 1, 1, 1, 1),
-    (b"\x07\x00", 1, 1, 1, 1),
-    (b"\x01\x00", 2, 2, 2, 2),
-];
+const SHAPE: Option<Fault> = Some(Fault::Shape);
 
-// 0 if there is no fault, else its number.
-fn told<T: Drop>(answer: Result<T, Fault>) -> u8 {
-    let Err(fault) = answer else {
-        return 0;
-    };
-    match fault {
-        Fault::Shape => 1,
-        Fault::Unreadable => 2,
-        Fault::TooMany => 3,
-        Fault::Range => 4,
-    }
-}
+const UNREADABLE: Option<Fault> = Some(Fault::Unreadable);
+
+const TOO_MANY: Option<Fault> = Some(Fault::TooMany);
+
+// A line, and the fault that is told where it is not added to a ticket, a full ticket, a yes and a full yes.
+const ADDED: [(
+    &[u8],
+    Option<Fault>,
+    Option<Fault>,
+    Option<Fault>,
+    Option<Fault>,
+); 5] = [
+    (PERSONS, None, TOO_MANY, None, TOO_MANY),
+    (ELSE, None, TOO_MANY, UNREADABLE, UNREADABLE),
+    (b"", SHAPE, SHAPE, SHAPE, SHAPE),
+    (b"\x07\x00", SHAPE, SHAPE, SHAPE, SHAPE),
+    (b"\x01\x00", UNREADABLE, UNREADABLE, UNREADABLE, UNREADABLE),
+];
 
 fn is<T: Coded>(rt: &impl Abort, heap: Global, thing: &T, bytes: &[u8]) -> Result<(), Fail> {
     assert_eq!(rt; thing.to_bytes(heap)?.as_slice(), bytes);
@@ -61,17 +60,17 @@ fn made(rt: HostRuntime) -> Result<(), Fail> {
     is(&rt, heap, &passed.yes, TIED)
 }
 
-// A thing is read back as it was; cut short at any length, or with a byte left over, it has fault 1.
+// A thing is read back as it was; cut short at any length, or with a byte left over, it has the wrong shape.
 fn reads_back<T: Coded + Drop>(rt: &impl Abort, heap: Global, bytes: &[u8]) -> Result<(), Fail> {
     let thing: T = from_bytes(bytes)?;
     is(rt, heap, &thing, bytes)?;
     for n in 0..bytes.len() {
-        assert_eq!(rt; told(from_bytes::<T>(&bytes[0..n])), 1);
+        assert_eq!(rt; from_bytes::<T>(&bytes[0..n]).err(), SHAPE);
     }
     let mut longer = Vec::new(heap);
     longer.extend_from_slice(bytes)?;
     longer.push(0)?;
-    assert_eq!(rt; told(from_bytes::<T>(longer.as_slice())), 1);
+    assert_eq!(rt; from_bytes::<T>(longer.as_slice()).err(), SHAPE);
     Ok(())
 }
 
@@ -89,13 +88,13 @@ fn read_back(rt: HostRuntime) -> Result<(), Fail> {
     reads_back::<YesKey>(&rt, heap, KEY)
 }
 
-fn told_as(kind: u8, bytes: &[u8]) -> u8 {
+fn told_as(kind: Kind, bytes: &[u8]) -> Option<Fault> {
     match kind {
-        16 => told(from_bytes::<Ticket>(bytes)),
-        17 => told(from_bytes::<Yes>(bytes)),
-        18 => told(from_bytes::<TiedYes>(bytes)),
-        19 => told(from_bytes::<PassedYes>(bytes)),
-        _ => told(from_bytes::<YesKey>(bytes)),
+        Kind::Ticket => from_bytes::<Ticket>(bytes).err(),
+        Kind::Yes => from_bytes::<Yes>(bytes).err(),
+        Kind::Tied => from_bytes::<TiedYes>(bytes).err(),
+        Kind::Passed => from_bytes::<PassedYes>(bytes).err(),
+        _ => from_bytes::<YesKey>(bytes).err(),
     }
 }
 
@@ -110,48 +109,37 @@ fn faults_told(rt: HostRuntime) -> Result<(), Fail> {
     Ok(())
 }
 
-fn full_ticket() -> Result<Ticket, Fail> {
-    let mut ticket = Ticket::new(Mac::new(HOUSE), 7, MUSEUMS)?;
-    for _ in 1..32 {
-        ticket.add(PERSONS)?;
+// With a line added so many times.
+fn filled<B: Body + Copy>(few: WithMac<B>, line: &[u8], times: u8) -> Result<WithMac<B>, Fail> {
+    let mut many = few;
+    for _ in 0..times {
+        many.add(line)?;
     }
-    Ok(ticket)
+    Ok(many)
+}
+
+fn full_ticket() -> Result<Ticket, Fail> {
+    filled(Ticket::new(Mac::new(HOUSE), 7, MUSEUMS)?, PERSONS, 31)
 }
 
 fn full_yes(key: YesKey) -> Result<Yes, Fail> {
-    let mut yes = key.yes();
-    for _ in 0..16 {
-        yes.add(DAYS)?;
-    }
-    Ok(yes)
+    filled(key.yes(), DAYS, 16)
 }
 
-// The fault is told, and then all is as it was.
-fn kept<T: Coded>(
+// A line is added, or the fault is told, and then all is as it was.
+fn adds<B: Body + Coded + Copy>(
     rt: &impl Abort,
     heap: Global,
-    before: &T,
-    after: &T,
-    answer: Result<(), Fault>,
-    fault: u8,
+    before: WithMac<B>,
+    line: &[u8],
+    fault: Option<Fault>,
 ) -> Result<(), Fail> {
-    assert_eq!(rt; told(answer), fault);
-    if fault != 0 {
-        is(rt, heap, after, before.to_bytes(heap)?.as_slice())?;
+    let mut after = before;
+    assert_eq!(rt; after.add(line).err(), fault);
+    if fault.is_some() {
+        is(rt, heap, &after, before.to_bytes(heap)?.as_slice())?;
     }
     Ok(())
-}
-
-fn adds(rt: &impl Abort, heap: Global, ticket: Ticket, line: &[u8], fault: u8) -> Result<(), Fail> {
-    let mut longer = ticket;
-    let answer = longer.add(line);
-    kept(rt, heap, &ticket, &longer, answer, fault)
-}
-
-fn limits(rt: &impl Abort, heap: Global, yes: Yes, limit: &[u8], fault: u8) -> Result<(), Fail> {
-    let mut longer = yes;
-    let answer = longer.add(limit);
-    kept(rt, heap, &yes, &longer, answer, fault)
 }
 
 #[test]
@@ -164,8 +152,8 @@ fn added(rt: HostRuntime) -> Result<(), Fail> {
     for (line, to_ticket, to_full_ticket, to_yes, to_full_yes) in ADDED {
         adds(&rt, heap, ticket, line, to_ticket)?;
         adds(&rt, heap, full_ticket, line, to_full_ticket)?;
-        limits(&rt, heap, key.yes(), line, to_yes)?;
-        limits(&rt, heap, full_yes, line, to_full_yes)?;
+        adds(&rt, heap, key.yes(), line, to_yes)?;
+        adds(&rt, heap, full_yes, line, to_full_yes)?;
     }
     Ok(())
 }
@@ -178,12 +166,12 @@ fn most(rt: HostRuntime) -> Result<(), Fail> {
     reads_back::<Ticket>(&rt, heap, ticket.as_slice())?;
     assert!(rt; 5 < ticket.len());
     ticket[5] = 33;
-    assert_eq!(rt; told(from_bytes::<Ticket>(ticket.as_slice())), 3);
+    assert_eq!(rt; from_bytes::<Ticket>(ticket.as_slice()).err(), TOO_MANY);
     let mut yes = full_yes(from_bytes(KEY)?)?.to_bytes(heap)?;
     reads_back::<Yes>(&rt, heap, yes.as_slice())?;
     assert!(rt; 3 < yes.len());
     yes[3] = 17;
-    assert_eq!(rt; told(from_bytes::<Yes>(yes.as_slice())), 3);
+    assert_eq!(rt; from_bytes::<Yes>(yes.as_slice()).err(), TOO_MANY);
     Ok(())
 }
 
@@ -193,6 +181,7 @@ fn compared(rt: HostRuntime) -> Result<(), Fail> {
         let one: TicketBody = from_bytes(one)?;
         let other: TicketBody = from_bytes(other)?;
         assert_eq!(rt; one.same(&other), same);
+        assert_eq!(rt; one == other, same);
         assert_eq!(rt; one.extends(&other), more);
     }
     Ok(())

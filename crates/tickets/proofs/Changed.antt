@@ -1,17 +1,18 @@
 -- What tickets and yeses say, through a change of their rows of lines. Assumes nothing.
-use Rattle.std.proofs.Common.{◌≡◌, ◌≤◌, true, List, length, Ok, Err, Result, sym, refl, ap, ◌∙◌, arith, MatchResult}
+use Rattle.std.proofs.Common.{◌≡◌, ◌≤◌, true, List, length, Ok, Err, Result, sym, refl, ap, ◌∙◌, arith}
 use mathlib.Core.HLevel.{is_prop→PathP}
 use denote.Struct.Props.{props}
 use Rattle.std.specs.Result.{result_map_both}
 use Rattle.std.proofs.lemmas.List.{length_push}
 use Rattle.narrow.specs.Term.{Bytes}
+use Rattle.narrow.specs.Ticket as model
 use Rattle.narrow.proofs.Rows.{contradiction}
 use Rattle.hmac.specs.Hmac.{hmac_of}
-use Rattle.hmac.specs.declared.Mac.{Mac}
 use Rattle.lines.specs.declared.Fault.{Fault}
 use Rattle.lines.specs.declared.Place.{Place}
 use Rattle.lines.specs.declared.Place.TheVariants as place
 use Rattle.rows.specs.declared.row.Lines.{Lines}
+use Rattle.rows.specs.Due.{ChangedAs}
 use Rattle.rows.specs.Row.{rows}
 use Rattle.rows.specs.Standing.{pushed}
 use Rattle.rows.proofs.Held.{row_count}
@@ -19,7 +20,7 @@ use Rattle.rows.proofs.Pushing.{push_parts}
 use Rattle.tickets.specs.declared.bodies.TicketBody.{TicketBody}
 use Rattle.tickets.specs.declared.bodies.YesBody.{YesBody}
 use Rattle.tickets.specs.Places.{on_ticket, on_yes}
-use Rattle.tickets.specs.Making.{Ticket, Yes, line_added, limit_added}
+use Rattle.tickets.specs.Making.{Maced, ticket_longer, yes_longer, added}
 
 pub ticket_place : (p : Place) → on_ticket p ≡ true → p ≡ place.Ticket
 ticket_place place.Ticket e = refl
@@ -53,26 +54,31 @@ yes_back b ls x e =
 
 -- what comes of adding, by what came of making the row longer
 module _ (p : Place) (l : Bytes) where
-  pub line_grown : (t : Ticket) → p ≡ place.Ticket → (ls : List Bytes) → pushed p t.of.lines l ≡ Ok ls →
-      line_added t l ≡ Ok (record { of = record { number = t.of.number; lines = ls }; mac = hmac_of t.mac l })
-  unfolding line_added
-  line_grown t at ls e = ap (result_map_both _ (λ f. f)) (ap (λ q. pushed q t.of.lines l) (sym at) ∙ e)
+  pub ticket_grown : (t : model.Ticket) → p ≡ place.Ticket → (ls : List Bytes) → pushed p t.lines l ≡ Ok ls →
+      ticket_longer t l ≡ Ok (record { number = t.number; lines = ls })
+  ticket_grown t at ls e = ap (result_map_both _ (λ f. f)) (ap (λ q. pushed q t.lines l) (sym at) ∙ e)
 
-  pub line_refused : (t : Ticket) → p ≡ place.Ticket → (f : Fault) → pushed p t.of.lines l ≡ Err f → line_added t l ≡ Err f
-  unfolding line_added
-  line_refused t at f e = ap (result_map_both _ (λ g. g)) (ap (λ q. pushed q t.of.lines l) (sym at) ∙ e)
+  pub ticket_refused : (t : model.Ticket) → p ≡ place.Ticket → (f : Fault) → pushed p t.lines l ≡ Err f → ticket_longer t l ≡ Err f
+  ticket_refused t at f e = ap (result_map_both _ (λ g. g)) (ap (λ q. pushed q t.lines l) (sym at) ∙ e)
 
-  pub limit_grown : (y : Yes) → p ≡ place.Yes → (ls : List Bytes) → pushed p y.of.lines l ≡ Ok ls →
-      limit_added y l ≡ Ok (record { of = record { key = y.of.key; lines = ls }; mac = hmac_of y.mac l })
-  unfolding limit_added
-  limit_grown y at ls e = ap (result_map_both _ (λ f. f)) (ap (λ q. pushed q y.of.lines l) (sym at) ∙ e)
+  pub yes_grown : (y : model.Yes) → p ≡ place.Yes → (ls : List Bytes) → pushed p y.lines l ≡ Ok ls →
+      yes_longer y l ≡ Ok (record { key = y.key; lines = ls })
+  yes_grown y at ls e = ap (result_map_both _ (λ f. f)) (ap (λ q. pushed q y.lines l) (sym at) ∙ e)
 
-  pub limit_refused : (y : Yes) → p ≡ place.Yes → (f : Fault) → pushed p y.of.lines l ≡ Err f → limit_added y l ≡ Err f
-  unfolding limit_added
-  limit_refused y at f e = ap (result_map_both _ (λ g. g)) (ap (λ q. pushed q y.of.lines l) (sym at) ∙ e)
+  pub yes_refused : (y : model.Yes) → p ≡ place.Yes → (f : Fault) → pushed p y.lines l ≡ Err f → yes_longer y l ≡ Err f
+  yes_refused y at f e = ap (result_map_both _ (λ g. g)) (ap (λ q. pushed q y.lines l) (sym at) ∙ e)
+
+-- the same with a MAC, by what came of making the body longer
+module _ {A : Type 0} (longer : A → Bytes → Result A Fault) (t : Maced A) (l : Bytes) where
+  pub added_on : (a : A) → longer t.of l ≡ Ok a → added longer t l ≡ Ok (record { of = a; mac = hmac_of t.mac l })
+  unfolding added
+  added_on a e = ap (result_map_both _ (λ f. f)) e
+
+  pub added_stop : (f : Fault) → longer t.of l ≡ Err f → added longer t l ≡ Err f
+  unfolding added
+  added_stop f e = ap (result_map_both _ (λ g. g)) e
 
 -- whatever came of making a row longer that had a line, it has one
-pub still_some : (r : Result Mac Fault) (p : Place) (before after : Lines) (mac l : Bytes) → 1 ≤ before.count →
-    MatchResult r (λ m. (pushed p (rows before) l ≡ Ok (rows after)) × (m.bytes ≡ hmac_of mac l)) (λ f. (pushed p (rows before) l ≡ Err f) × (after ≡ before)) → 1 ≤ after.count
-still_some (Ok m) p before after mac l h (e, q) = some_line p (rows before) l after e
-still_some (Err f) p before after mac l h (q, e) = omega (arith, ap (λ (r : Lines). r.count) e)
+pub still_some : {U : Type 0} (r : Result U Fault) (p : Place) (before after : Lines) (l : Bytes) → 1 ≤ before.count → ChangedAs rows (pushed p (rows before) l) before r after → 1 ≤ after.count
+still_some (Ok u) p before after l h e = some_line p (rows before) l after e
+still_some (Err f) p before after l h (q, e) = omega (arith, ap (λ (r : Lines). r.count) e)

@@ -1,5 +1,6 @@
 -- Tickets compared by their bytes are compared as the model's. Assumes nothing.
-use Rattle.std.proofs.Common.{◌≡◌, ℕ, Bool, true, false, List, [], ◌++◌, length, drop, Decides, sym, ap, ◌∙◌, append-nil}
+use Rattle.std.proofs.Common.{◌≡◌, ℕ, Bool, true, false, ◌&&◌, List, [], ◌++◌, length, drop, Decides, sym, ap, ◌∙◌, append-nil}
+use Rattle.std.proofs.lemmas.Bool.{and_parts, and_from}
 use Rattle.std.proofs.lemmas.Bool.Decides.{same_from_decides}
 use Rattle.narrow.specs.Term.{Bytes}
 use Rattle.narrow.specs.Ticket.{Ticket}
@@ -19,17 +20,13 @@ same_number : (m n : ℕ) → four_bytes m ≡ four_bytes n → m ≡ n
 same_number m n e = (four_bytes_same m n [] [] (append-nil (four_bytes m) ∙ (e ∙ sym (append-nil (four_bytes n))))).0
 
 module _ (m n : ℕ) (ls ms : List Bytes) where
-  pub same_wires : m ≡ n → (b : Bool) → Decides b (wire ls ≡ wire ms) → b ≡ same_ticket (numbered m ls) (numbered n ms)
-  same_wires e b d =
-      same_from_decides b _ (
-        λ q. λ i. record { number = four_bytes (e i); lines = wire_same ls ms (d.0 q) i },
-        λ q. d.1 (ap (λ (t : Ticket). wire t.lines) q),
+  pub same_bodies : (a b : Bool) → Decides a (m ≡ n) → Decides b (wire ls ≡ wire ms) → a && b ≡ same_ticket (numbered m ls) (numbered n ms)
+  same_bodies a b d e =
+      same_from_decides (a && b) _ (
+        λ q. let (one, two) = and_parts a b q in λ i. record { number = four_bytes (d.0 one i); lines = wire_same ls ms (e.0 two) i },
+        λ q. and_from a b (d.1 (same_number m n (ap (λ (t : Ticket). t.number) q))) (e.1 (ap (λ (t : Ticket). wire t.lines) q)),
       )
       (same_ticket_lem (numbered m ls) (numbered n ms))
-
-  pub other_ticket : (m ≡ n → ⊥) → false ≡ same_ticket (numbered m ls) (numbered n ms)
-  other_ticket ne =
-      same_from_decides false _ (λ q. contradiction (cc), λ q. absurd (ne (same_number m n (ap (λ (t : Ticket). t.number) q)))) (same_ticket_lem (numbered m ls) (numbered n ms))
 
   pub begun_wires : m ≡ n → (b : Bool) → (b ≡ true → wire ls ≡ wire ms ++ drop (length (wire ms)) (wire ls)) × ((rest : Bytes) → wire ls ≡ wire ms ++ rest → b ≡ true) →
       b ≡ extends (numbered m ls) (numbered n ms)

@@ -3,3 +3,4 @@ pub mod Making
 pub mod Views
 pub mod Made
 pub mod Laws
+pub mod Stays

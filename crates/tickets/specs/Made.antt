@@ -1,11 +1,12 @@
 -- What is right: what was made from a house's secrets by making, adding and tying. Assumes nothing.
-use Rattle.std.specs.Prelude.{◌≡◌, ℕ, length, replicate, Some, Ok, Option}
+use Rattle.std.specs.Prelude.{◌≡◌, ℕ, length, replicate, Some, Ok, Option, Result}
 use Rattle.std.specs.Option.{unwrap_or}
 use Rattle.narrow.specs.Term.{Bytes, mac_length, Origin, House, KeyOf}
 use Rattle.narrow.specs.Ticket as model
 use Rattle.narrow.specs.TermBytes.{Interpretation, bytes_of}
 use Rattle.hmac.specs.Hmac.{hmac_of}
-use Rattle.tickets.specs.Making.{Ticket, Yes, Tied, line_added, limit_added, new_ticket, new_yes, tied}
+use Rattle.lines.specs.declared.Fault.{Fault}
+use Rattle.tickets.specs.Making.{Maced, Ticket, Yes, Tied, added, line_added, limit_added, new_ticket, new_yes, tied}
 
 -- a thing that somebody has, with its 32 bytes: a ticket; a yes; a yes tied to a ticket, with that ticket's number and lines; a key
 pub data Thing : Type 0 where
@@ -45,6 +46,10 @@ by_hmac s = record { hmac = hmac_of; secret = secret_of s }
 -- the thing has the bytes of its own term
 abbrev pub Right : Secrets → Thing → Type 0
 Right s x = carried x ≡ bytes_of (by_hmac s) (model.term_of (plain x))
+
+-- whatever is right stays so when one line more is MACed under the MAC before
+abbrev pub StaysRight : {A : Type 0} → (A → Bytes → Result A Fault) → (Maced A → Thing) → Type 0
+StaysRight {A} longer thing = (s : Secrets) (t u : Maced A) (l : Bytes) → added longer t l ≡ Ok u → Right s (thing t) → Right s (thing u)
 
 -- made from a house's secrets: new tickets, keys that the house knows and yeses under them, lines and limits added, yeses tied
 pub data Made (s : Secrets) : Thing → Type 0 where

@@ -24,15 +24,25 @@ Yes = Maced model.Yes
 abbrev pub Tied : Type 0
 Tied = Maced model.Yes
 
--- the ticket with one line more, MACed under the MAC before; or why it can't be, as for rows of lines
-unfoldable pub line_added : Ticket → Bytes → Result Ticket Fault
-line_added t l =
-    result_map_both (λ ls. record { of = record { number = t.of.number; lines = ls }; mac = hmac_of t.mac l }) (λ f. f) (pushed place.Ticket t.of.lines l)
+-- a ticket of the model with one line more, or why it can't be, as for rows of lines
+abbrev pub ticket_longer : model.Ticket → Bytes → Result model.Ticket Fault
+ticket_longer t l = result_map_both (λ ls. record { number = t.number; lines = ls }) (λ f. f) (pushed place.Ticket t.lines l)
 
 -- the same for a yes and a limit
-unfoldable pub limit_added : Yes → Bytes → Result Yes Fault
-limit_added y l =
-    result_map_both (λ ls. record { of = record { key = y.of.key; lines = ls }; mac = hmac_of y.mac l }) (λ f. f) (pushed place.Yes y.of.lines l)
+abbrev pub yes_longer : model.Yes → Bytes → Result model.Yes Fault
+yes_longer y l = result_map_both (λ ls. record { key = y.key; lines = ls }) (λ f. f) (pushed place.Yes y.lines l)
+
+-- made longer by one line, which is MACed under the MAC before
+unfoldable pub added : {A : Type 0} → (A → Bytes → Result A Fault) → Maced A → Bytes → Result (Maced A) Fault
+added longer t l = result_map_both (λ a. record { of = a; mac = hmac_of t.mac l }) (λ f. f) (longer t.of l)
+
+-- the ticket with one line more, or why it can't be
+abbrev pub line_added : Ticket → Bytes → Result Ticket Fault
+line_added = added ticket_longer
+
+-- the yes with one limit more, or why it can't be
+abbrev pub limit_added : Yes → Bytes → Result Yes Fault
+limit_added = added yes_longer
 
 -- the number of a ticket, MACed under the house's key: no ticket yet, as it has no line
 abbrev pub number_maced : Bytes → Bytes → Ticket

@@ -6,7 +6,7 @@ use lines::KeyNumber;
 use rows::Lines;
 
 /// A ticket's number and lines, of which there is one at least.
-#[derive(Clone, Copy)]
+#[derive(Clone, Copy, PartialEq, Eq)]
 pub struct TicketBody {
     pub number: u32,
     pub lines: Lines,

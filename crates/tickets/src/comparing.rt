@@ -10,7 +10,7 @@ impl TicketBody {
     pub fn same(&self, other: &TicketBody) -> bool
         ensures { result ≡ same_ticket (ticket_body self.now) (ticket_body other.now) }
     {
-        self.number == other.number && self.lines.wire() == other.lines.wire()
+        self == other
     }
 
     /// Whether this is the other ticket, or the other with lines added. As a line begins with its length, its bytes then begin with the

@@ -29,7 +29,7 @@ returns-in_err-house c =
 pub returns-in_default : goal.returns-in_default
 returns-in_default c =
     let kind = sym c.new-reader.ensures ∙ c.in_ok-read_kind.ensures in
-    not_read c.args.bytes.now Shape (no_count c.args.bytes.now _ kind _ _ c.in_ok-house.ensures Shape (two_byte_short c.read_mac.new.reader.rest.now c.in_default.ensures.0))
+    not_read c.args.bytes.now Shape (no_count c.args.bytes.now _ kind _ _ c.in_ok-house.ensures Shape (two_byte_short c.read.new.reader.rest.now c.in_default.ensures.0))
 
 pub returns-in_err-key : goal.returns-in_err-key
 returns-in_err-key c =

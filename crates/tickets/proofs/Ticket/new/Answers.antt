@@ -1,44 +1,47 @@
 use Rattle.std.proofs.Common.{◌≡◌, List, Ok, sym, ap, ◌∙◌}
 use Rattle.std.proofs.lemmas.Result.{err_from_is_err_and}
 use Rattle.narrow.specs.Term.{Bytes}
+use Rattle.narrow.specs.Ticket as model
 use Rattle.numbers.specs.Bytes.{four_bytes}
 use Rattle.hmac.specs.Hmac.{hmac_of}
 use Rattle.rows.specs.Row.{rows}
 use Rattle.rows.specs.Standing.{pushed}
-use Rattle.tickets.specs.Making.{number_maced, new_ticket}
+use Rattle.tickets.specs.Making.{ticket_longer, number_maced, new_ticket}
 use Rattle.tickets.specs.Places.{on_ticket}
-use Rattle.tickets.proofs.Changed.{some_line, line_grown, line_refused}
+use Rattle.tickets.proofs.Changed.{some_line, ticket_grown, ticket_refused, added_on, added_stop}
 use Rattle.tickets.proofs.Rightly.{right_new}
 use Rattle.tickets.proofs.Ticket.new.Goals as goal
 
-pub returns-in_err-mac : goal.returns-in_err-mac
+pub returns-in_err-push : goal.returns-in_err-push
 unfolding new_ticket
-returns-in_err-mac c =
+returns-in_err-push c =
     let p = err_from_is_err_and c.from_residual.result c.from_residual.ensures.1 in
     let start = number_maced c.args.house.bytes (four_bytes c.args.number) in
     let empty = ap (λ (ls : List Bytes). pushed c.new-lines.result.place ls c.args.first.now) (sym c.new-lines.ensures.lines) in
     rw (p.1, p.2)
-    (record { value = sym (line_refused _ c.args.first.now start c.new-lines.ensures.place _ (empty ∙ c.in_err-mac.ensures.grown.0)); right = tt })
+    (record {
+      value = sym (added_stop ticket_longer start c.args.first.now _ (ticket_refused _ c.args.first.now start.of c.new-lines.ensures.place _ (empty ∙ c.in_err-push.ensures.added.0)));
+      right = tt;
+    })
 
 pub invariant_of-body : goal.invariant_of-body
 invariant_of-body c = record {
-  stands = ap on_ticket (c.in_ok-mac.ensures.place ∙ c.new-lines.ensures.place);
-  some = some_line _ _ c.args.first.now c.grow.new.lines c.in_ok-mac.ensures.grown.0;
+  stands = ap on_ticket (c.in_ok-push.ensures.place ∙ c.new-lines.ensures.place);
+  some = some_line _ _ c.args.first.now c.push.new.self c.in_ok-push.ensures.added;
 }
 
 pub returns : goal.returns
 unfolding new_ticket
 returns c =
-    let start = number_maced c.args.house.bytes (four_bytes c.args.number) in
-    let grown = c.in_ok-mac.ensures.grown in
+    let number = four_bytes c.args.number in
+    let start = number_maced c.args.house.bytes number in
     let empty = ap (λ (ls : List Bytes). pushed c.new-lines.result.place ls c.args.first.now) (sym c.new-lines.ensures.lines) in
-    let first : c.mac-start.result.bytes ≡ hmac_of c.args.house.bytes (four_bytes c.args.number) =
-    c.mac-start.ensures ∙ ap (hmac_of c.args.house.bytes) c.to_bytes.ensures in
-    let maced = grown.1 ∙ ap (λ (b : Bytes). hmac_of b c.args.first.now) first in
+    let maced : c.mac-mac.result.bytes ≡ hmac_of (hmac_of c.args.house.bytes number) c.args.first.now =
+    c.mac-mac.ensures ∙ ap (λ (b : Bytes). hmac_of b c.args.first.now) (c.mac-start.ensures ∙ ap (hmac_of c.args.house.bytes) c.to_bytes.ensures) in
     let made =
-    line_grown _ c.args.first.now start c.new-lines.ensures.place _ (empty ∙ grown.0) ∙
-    ap (λ (b : Bytes). Ok (record { of = record { number = four_bytes c.args.number; lines = rows c.grow.new.lines }; mac = b })) (sym maced) in
+    added_on ticket_longer start c.args.first.now _ (ticket_grown _ c.args.first.now start.of c.new-lines.ensures.place _ (empty ∙ c.in_ok-push.ensures.added)) ∙
+    ap (λ (b : Bytes). Ok (record { of = record { number = number; lines = rows c.push.new.self }; mac = b })) (sym maced) in
     record {
       value = sym made;
-      right = λ s e. right_new s (four_bytes c.args.number) c.args.first.now _ (ap (λ (b : Bytes). new_ticket b (four_bytes c.args.number) c.args.first.now) e ∙ made);
+      right = λ s e. right_new s number c.args.first.now _ (ap (λ (b : Bytes). new_ticket b number c.args.first.now) e ∙ made);
     }

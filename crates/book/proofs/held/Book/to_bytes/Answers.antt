@@ -5,8 +5,7 @@ use Rattle.numbers.specs.Bytes.{two_bytes}
 use Rattle.tickets.specs.declared.YesKey.{YesKey}
 use Rattle.codec.specs.Format.{fixed, two_byte, behind, both, named, write_several}
 use Rattle.codec.specs.Things.{key}
-use Rattle.codec.proofs.Laid.{laid_two}
-use Rattle.showing.proofs.Several.{several_push}
+use Rattle.codec.proofs.Laid.{laid_two, several_push}
 use Rattle.book.specs.Booking.{book_kind}
 use Rattle.book.specs.Keys.{book_keys}
 use Rattle.book.specs.Table.{key_view, keys_view}

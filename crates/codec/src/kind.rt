@@ -1,0 +1,13 @@
+// What the first byte of a thing tells.
+
+/// The kinds of things, by their first byte. That of a wish, 21, stands in the crate `wishes`, which knows of no other.
+#[derive(Clone, Copy, PartialEq, Eq, Debug)]
+pub enum Kind {
+    Ticket = 16,
+    Yes = 17,
+    Tied = 18,
+    Passed = 19,
+    Key = 20,
+    Shown = 22,
+    Book = 23,
+}
