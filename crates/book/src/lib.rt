@@ -4,7 +4,7 @@
 ghost use Rattle.book.specs.Booking.{book_of, book_bytes};
 ghost use Rattle.book.specs.Keys.{secret_in};
 ghost use Rattle.book.specs.Laws.{BookExact, OneOfANumber};
-ghost use Rattle.book.specs.Table.{key_view, secret_view};
+ghost use Rattle.book.specs.Entries.{key_view, secret_view};
 ghost use Rattle.book.specs.Views.{book_view, Added};
 ghost use Rattle.showing.specs.Views.{Told};
 ghost use Rattle.std.specs.Prelude.{◌≡◌, [], IfOk};
@@ -15,6 +15,7 @@ mod keys;
 use codec::{Coded, read_kind, read_mac};
 pub use held::{AddError, Book};
 use hmac::Mac;
+use indexmap::IndexMap;
 use keys::read_key;
 use lines::{Fault, KeyNumber};
 use numbers::two_bytes;
@@ -27,15 +28,13 @@ const BOOK_KIND: u8 = 23;
 
 impl Book {
     /// A book of this house that has no keys yet.
-    pub fn new(heap: Global, house: Mac) -> Result<Book, AllocError>
-        ensures { IfOk result (λ b. book_view b ≡ record { house = house.bytes; keys = [] }) }
+    pub fn new(heap: Global, house: Mac) -> Book
+        ensures { book_view result ≡ record { house = house.bytes; keys = [] } }
     {
-        let secrets = vec![in heap; None; 4096]?;
-        Ok(Book {
+        Book {
             house,
-            keys: Vec::new(heap),
-            secrets,
-        })
+            keys: IndexMap::new(heap),
+        }
     }
 
     pub fn house(&self) -> Mac
@@ -44,11 +43,11 @@ impl Book {
         self.house
     }
 
-    /// The secret of the key with this number, from the table.
+    /// The secret of the key with this number.
     pub fn secret(&self, number: KeyNumber) -> Option<Mac>
         ensures { secret_view result ≡ secret_in (book_view self.now).keys number.number }
     {
-        self.secrets[number.get() as usize]
+        self.keys.get(&number).copied()
     }
 
     /// One key more, at the end. Where its number is taken, or there is no memory, nothing changes.
@@ -69,7 +68,11 @@ impl Book {
         out.push(BOOK_KIND)?;
         out.extend_from_slice(&self.house.bytes())?;
         out.extend_from_slice(&two_bytes(self.keys.len() as u16))?;
-        for key in self.keys.as_slice() {
+        for (number, secret) in &self.keys {
+            let key = YesKey {
+                number: *number,
+                secret: *secret,
+            };
             out.extend_from_slice(key.to_bytes(heap)?.as_slice())?;
         }
         Ok(out)
@@ -83,10 +86,8 @@ pub fn read_book(heap: Global, bytes: &[u8]) -> Result<Book, Unread>
     let mut reader = Reader::new(bytes);
     read_kind(&mut reader, BOOK_KIND)?;
     let house = read_mac(&mut reader)?;
-    let Some(count) = reader.two() else {
-        return Err(Unread::Bad(Fault::Shape));
-    };
-    let mut book = Book::new(heap, house)?;
+    let count = reader.two().ok_or(Fault::Shape)?;
+    let mut book = Book::new(heap, house);
     for _ in 0..count {
         let key = read_key(&mut reader, &book)?;
         book.put(key)?;
