@@ -3,9 +3,10 @@ use Rattle.std.proofs.Common.{◌≡◌, ℕ, zero, suc, ◌+◌, ◌<◌, ◌�
 use Rattle.std.proofs.lemmas.Bool.{not-true, and_parts, and_from, cond-true, cond-false, cases_eq, eq-eqb, ne_eqb, leb-true, le-leb}
 use Rattle.narrow.specs.Rows.{all}
 use Rattle.parts.specs.Limits.{last_key}
-use Rattle.tickets.specs.declared.YesKey.{YesKey}
+use Rattle.hmac.specs.declared.Mac.{Mac}
+use Rattle.parts.specs.declared.KeyNumber.{KeyNumber}
 use Rattle.book.specs.Keys.{KeyView, secret_in, taken, apart}
-use Rattle.book.specs.Table.{keys_view}
+use Rattle.book.specs.Entries.{keys_view}
 
 -- how many numbers below this one are taken
 unfoldable held : ℕ → List KeyView → ℕ
@@ -67,7 +68,7 @@ pub few_keys : (ks : List KeyView) → apart ks ≡ true → all (λ k. leb k.0 
 few_keys ks a h = omega (arith, held_all last_key ks a h, held_most (suc last_key) ks)
 
 -- a key of the code has such a number
-pub known_keys : (ks : List YesKey) → all (λ k. leb k.0 last_key) (keys_view ks) ≡ true
+pub known_keys : (es : List (KeyNumber × Mac)) → all (λ k. leb k.0 last_key) (keys_view es) ≡ true
 unfolding all
 known_keys [] = refl
-known_keys (k ∷ ks) = and_from (leb k.number.number last_key) (all (λ k. leb k.0 last_key) (keys_view ks)) (le-leb k.number.number last_key k.number.known) (known_keys ks)
+known_keys (e ∷ es) = and_from (leb e.0.number last_key) (all (λ k. leb k.0 last_key) (keys_view es)) (le-leb e.0.number last_key e.0.known) (known_keys es)

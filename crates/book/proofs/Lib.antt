@@ -2,4 +2,4 @@ pub mod Apart
 mod Few
 pub mod Keyed
 pub mod Books
-mod Tabled
+mod Looked

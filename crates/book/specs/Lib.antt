@@ -1,5 +1,5 @@
 pub mod Keys
 pub mod Booking
-pub mod Table
+pub mod Entries
 pub mod Views
 pub mod Laws

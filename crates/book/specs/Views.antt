@@ -1,15 +1,15 @@
 -- What the code's books stand for. Assumes nothing.
-use Rattle.std.specs.Prelude.{◌≡◌, true, false, Ok, Err, vec_items, Result}
+use Rattle.std.specs.Prelude.{◌≡◌, true, false, Ok, Err, Result}
 use Rattle.book.specs.declared.held.Book.{Book}
 use Rattle.book.specs.declared.held.AddError.{AddError}
 use Rattle.book.specs.declared.held.AddError.TheVariants.{Taken, NoMemory}
 use Rattle.book.specs.Keys.{KeyView, taken}
 use Rattle.book.specs.Booking.{BookView, with_key}
-use Rattle.book.specs.Table.{keys_view}
+use Rattle.book.specs.Entries.{keys_view}
 
--- the book without its table
+-- the house's key, and the entries of its map
 abbrev pub book_view : Book → BookView
-book_view b = record { house = b.house.bytes; keys = keys_view (vec_items b.keys) }
+book_view b = record { house = b.house.bytes; keys = keys_view b.keys.entries }
 
 -- a key is added at the end where its number is free; where it is refused, nothing has changed
 abbrev pub Added : {A : Type 0} → BookView → KeyView → BookView → Result A AddError → Type 0

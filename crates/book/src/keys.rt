@@ -1,7 +1,7 @@
 // One key of a book: read behind others, and put with them.
 ghost use Rattle.book.specs.Booking.{with_key};
 ghost use Rattle.book.specs.Keys.{taken, new_key};
-ghost use Rattle.book.specs.Table.{key_view};
+ghost use Rattle.book.specs.Entries.{key_view};
 ghost use Rattle.book.specs.Views.{book_view};
 ghost use Rattle.std.specs.Prelude.{◌≡◌, false, Ok, Err, MatchResult};
 
@@ -36,8 +36,7 @@ impl Book {
             (λ _. book_view self.new ≡ with_key (book_view self.old) (key_view key))
             (λ _. book_view self.new ≡ book_view self.old) }
     {
-        self.keys.push(key)?;
-        self.secrets[key.number.get() as usize] = Some(key.secret);
+        self.keys.insert(key.number, key.secret)?;
         Ok(())
     }
 }

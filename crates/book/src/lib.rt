@@ -4,7 +4,7 @@
 ghost use Rattle.book.specs.Booking.{book_of, book_bytes};
 ghost use Rattle.book.specs.Keys.{secret_in};
 ghost use Rattle.book.specs.Laws.{BookExact, OneOfANumber};
-ghost use Rattle.book.specs.Table.{key_view, secret_view};
+ghost use Rattle.book.specs.Entries.{key_view, secret_view};
 ghost use Rattle.book.specs.Views.{book_view, Added};
 ghost use Rattle.showing.specs.Views.{Told};
 ghost use Rattle.std.specs.Prelude.{◌≡◌, [], IfOk};
@@ -15,6 +15,7 @@ mod keys;
 use codec::{Coded, Kind, read_kind};
 pub use held::{AddError, Book};
 use hmac::Mac;
+use indexmap::IndexMap;
 use keys::read_key;
 use lines::{Fault, KeyNumber};
 use numbers::Number;
@@ -25,15 +26,13 @@ use tickets::YesKey;
 
 impl Book {
     /// A book of this house that has no keys yet.
-    pub fn new(heap: Global, house: Mac) -> Result<Book, AllocError>
-        ensures { IfOk result (λ b. book_view b ≡ record { house = house.bytes; keys = [] }) }
+    pub fn new(heap: Global, house: Mac) -> Book
+        ensures { book_view result ≡ record { house = house.bytes; keys = [] } }
     {
-        let secrets = vec![in heap; None; 4096]?;
-        Ok(Book {
+        Book {
             house,
-            keys: Vec::new(heap),
-            secrets,
-        })
+            keys: IndexMap::new(heap),
+        }
     }
 
     pub fn house(&self) -> Mac
@@ -42,11 +41,11 @@ impl Book {
         self.house
     }
 
-    /// The secret of the key with this number, from the table.
+    /// The secret of the key with this number.
     pub fn secret(&self, number: KeyNumber) -> Option<Mac>
         ensures { secret_view result ≡ secret_in (book_view self.now).keys number.number }
     {
-        self.secrets[number.get() as usize]
+        self.keys.get(&number).copied()
     }
 
     /// One key more, at the end. Where its number is taken, or there is no memory, nothing changes.
@@ -67,8 +66,12 @@ impl Book {
         out.push(Kind::Book as u8)?;
         out.extend_from_slice(&self.house.bytes())?;
         out.extend_from_slice(&(self.keys.len() as u16).to_bytes())?;
-        for key in self.keys.as_slice() {
-            out.extend_from_slice(key.to_bytes(heap)?.as_slice())?;
+        for (number, secret) in &self.keys {
+            let key = YesKey {
+                number: *number,
+                secret: *secret,
+            };
+            key.write(&mut out)?;
         }
         Ok(out)
     }
@@ -81,10 +84,8 @@ pub fn read_book(heap: Global, bytes: &[u8]) -> Result<Book, Unread>
     let mut reader = Reader::new(bytes);
     read_kind(&mut reader, Kind::Book as u8)?;
     let house = Mac::read(&mut reader)?;
-    let Some(count) = reader.number::<u16, _>() else {
-        return Err(Unread::Bad(Fault::Shape));
-    };
-    let mut book = Book::new(heap, house)?;
+    let count = reader.number::<u16, _>().ok_or(Fault::Shape)?;
+    let mut book = Book::new(heap, house);
     for _ in 0..count {
         let key = read_key(&mut reader, &book)?;
         book.put(key)?;

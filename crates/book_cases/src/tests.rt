@@ -22,26 +22,16 @@ fn told(rt: &impl Abort, heap: Global, bytes: &[u8]) -> Result<u8, Fail> {
 }
 
 fn two_keys(heap: Global) -> Result<Book, Fail> {
-    let Ok(book) = read_book(heap, TWO) else {
-        return Err(Fail::new("no book"));
-    };
-    Ok(book)
+    read_book(heap, TWO).map_err(|_| Fail::new("no book"))
 }
 
 fn secret(book: &Book, number: u16) -> Result<Option<[u8; 32]>, Fail> {
-    let Some(number) = KeyNumber::new(number) else {
-        return Err(Fail::new("no number"));
-    };
-    match book.secret(number) {
-        Some(mac) => Ok(Some(mac.bytes())),
-        None => Ok(None),
-    }
+    let number = KeyNumber::new(number).ok_or_else(|| Fail::new("no number"))?;
+    Ok(book.secret(number).map(Mac::bytes))
 }
 
 fn key(number: u16, letter: u8) -> Result<YesKey, Fail> {
-    let Some(number) = KeyNumber::new(number) else {
-        return Err(Fail::new("no number"));
-    };
+    let number = KeyNumber::new(number).ok_or_else(|| Fail::new("no number"))?;
     Ok(YesKey {
         number,
         secret: Mac::new([letter; 32]),
@@ -60,7 +50,7 @@ fn books_told(rt: HostRuntime) -> Result<(), Fail> {
 fn cut_anywhere(rt: HostRuntime) -> Result<(), Fail> {
     assert_eq!(rt; told(&rt, rt.alloc(), TWO)?, 0);
     for end in 0..TWO.len() {
-        assert_eq!(rt; told(&rt, rt.alloc(), &TWO[0..end])?, 1);
+        assert_eq!(rt; told(&rt, rt.alloc(), &TWO[..end])?, 1);
     }
     Ok(())
 }
@@ -102,7 +92,7 @@ fn added_at_the_end(rt: HostRuntime) -> Result<(), Fail> {
 #[test]
 fn a_new_book(rt: HostRuntime) -> Result<(), Fail> {
     let heap = rt.alloc();
-    let mut book = Book::new(heap, Mac::new([b'h'; 32]))?;
+    let mut book = Book::new(heap, Mac::new([b'h'; 32]));
     assert_eq!(rt; secret(&book, 0)?, None);
     for (number, letter) in [(4095, b'a'), (5, b'b'), (6, b'c')] {
         assert_eq!(rt; book.add(key(number, letter)?), Ok(()));

@@ -1,8 +1,9 @@
--- The keys of the code, and its table of secrets by number. Assumes nothing.
-use Rattle.std.specs.Prelude.{ℕ, List, map, None, Option, slice_index_or}
+-- The keys of the code, as an entry of its map and by themselves. Assumes nothing.
+use Rattle.std.specs.Prelude.{List, map, Option}
 use Rattle.std.specs.Option.{option_map}
 use Rattle.narrow.specs.Term.{Bytes}
 use Rattle.hmac.specs.declared.Mac.{Mac}
+use Rattle.parts.specs.declared.KeyNumber.{KeyNumber}
 use Rattle.tickets.specs.declared.YesKey.{YesKey}
 use Rattle.book.specs.Keys.{KeyView}
 
@@ -10,14 +11,13 @@ use Rattle.book.specs.Keys.{KeyView}
 abbrev pub key_view : YesKey → KeyView
 key_view k = (k.number.number, k.secret.bytes)
 
--- keys, in their order
-abbrev pub keys_view : List YesKey → List KeyView
-keys_view ks = map key_view ks
+abbrev pub entry_view : KeyNumber × Mac → KeyView
+entry_view e = (e.0.number, e.1.bytes)
+
+-- the entries, in their order
+abbrev pub keys_view : List (KeyNumber × Mac) → List KeyView
+keys_view es = map entry_view es
 
 -- a secret, if there is one
 abbrev pub secret_view : Option Mac → Option Bytes
 secret_view s = option_map (λ m. m.bytes) s
-
--- what stands in the table at a number
-abbrev pub entry : List (Option Mac) → ℕ → Option Bytes
-entry table n = secret_view (slice_index_or table n None)
