@@ -6,7 +6,8 @@
 //     yes Y = K: LIMIT; LIMIT by PERSON           wish PERSON: WISH
 //     add X = OLD: LINE; LINE by PERSON           show PERSON T Z Z ..: WISH
 //
-// Names and persons are any words. A statement with a colon is cut at its first one into head and tail.
+// Names and persons are any words. A statement with a colon is cut at its first one into head and tail. The heap stands
+// beside the text, as in the library: a reader that held both would be made anew for each part of a line.
 #![tactic(auto)]
 
 ghost use Rattle.reading.specs.Forms.{said_by, said_in};

@@ -38,7 +38,7 @@ pub fn read_show(heap: Global, text: &str) -> Result<Statement, Trouble>
     })
 }
 
-// All words.
+// All words. `next_word` cuts them off one by one; an iterator would be one type more, for this loop alone.
 fn names_in(heap: Global, text: &str) -> Result<Vec<String>, Trouble>
     ensures { Told names_view result (Ok (words_of text.now)) }
 {

@@ -6,15 +6,10 @@ use Rattle.std.proofs.Common.{refl, inl, inr}
 use Rattle.texts.specs.Cuts.{words_of}
 use Rattle.scripting.specs.Laws.{AsAlone}
 use Rattle.scripting.specs.Rules as scripts
-use Rattle.scripting.specs.Rules.{uncommented}
 use Rattle.script.specs.declared.Cause.{Cause}
 use Rattle.script.specs.declared.Cause.TheVariants.{UnknownWord, MissingWord, TooManyWords, LateHouse}
 
 -- ---- what a line says
-
--- the words of a line
-abbrev pub words_in : List ℕ → List (List ℕ)
-words_in line = words_of (uncommented line)
 
 -- a statement, with its words as bytes
 pub data Said : Type 0 where

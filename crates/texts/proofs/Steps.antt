@@ -40,13 +40,16 @@ module _ {X Y : Type 0} {r : Result X Cause} where
 
 -- what there is, or else the cause c
 module _ {X Y : Type 0} (f : X → Y) (c : Cause) where
-  pub or_is : (o : Option X) (r : Result X Cause) → r ≡ ok_or o c → and_is r f ≡ ok_or (option_map f o) c
-  or_is None r e = ap (λ q. and_is q f) e
-  or_is (Some x) r e = ap (λ q. and_is q f) e
-
   pub or_told : (o : Option X) (r : Result X Cause) → r ≡ ok_or o c → {s : Result Y Cause} → MatchOption o (Err c ≡ s) (λ x. Ok (f x) ≡ s) → and_is r f ≡ s
   or_told None r e m = ap (λ q. and_is q f) e ∙ m
   or_told (Some x) r e m = ap (λ q. and_is q f) e ∙ m
+
+  pub or_is : (o : Option X) (r : Result X Cause) {p : Option Y} → option_map f o ≡ p → r ≡ ok_or o c → and_is r f ≡ ok_or p c
+  or_is o r h e = or_told o r e (by o) ∙ ap (λ q. ok_or q c) h
+    where
+      by : (o : Option X) → MatchOption o (Err c ≡ ok_or (option_map f o) c) (λ x. Ok (f x) ≡ ok_or (option_map f o) c)
+      by None = refl
+      by (Some x) = refl
 
 -- q is r with each error told as the cause c
 pub told_as : {X E : Type 0} {P : E → Cause → Type 0} (c : Cause) (r : Result X E) (q : Result X Cause) → MatchResult r (λ x. q ≡ Ok x) (λ d. IsErrAnd q (P d)) → ((d : E) (e : Cause) → P d e → e ≡ c) → q ≡ result_map_both (λ x. x) (λ d. c) r
@@ -54,13 +57,11 @@ told_as c (Ok x) q m is = m
 told_as c (Err d) q m is = let p = err_from_is_err_and q m in p.1 ∙ ap Err (is d p.0 p.2)
 
 -- what the exit of a `?` returns
-pub exits : {X Y : Type 0} (r : Result X Cause) (f : X → Y) (c : Cause) → IsErrAnd r (λ d. d ≡ c) → and_is r f ≡ Err c
-exits (Ok x) f c h = absurd h
-exits (Err d) f c h = ap Err h
-
 pub err_exits : {X : Type 0} (r : Result X Cause) (c : Cause) → IsErrAnd r (λ d. d ≡ c) → r ≡ Err c
-err_exits (Ok x) c h = absurd h
-err_exits (Err d) c h = ap Err h
+err_exits r c h = let p = err_from_is_err_and r h in p.1 ∙ ap Err p.2
+
+pub exits : {X Y : Type 0} (r : Result X Cause) (f : X → Y) (c : Cause) → IsErrAnd r (λ d. d ≡ c) → and_is r f ≡ Err c
+exits r f c h = ap (λ q. and_is q f) (err_exits r c h)
 
 pub one_told : (ws : List (List ℕ)) (w : List ℕ) → one_word ws ≡ Ok w → ws ≡ w ∷ []
 one_told [] w e = absurd (err_ok _ _ e)

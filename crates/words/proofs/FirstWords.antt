@@ -2,12 +2,11 @@
 use Rattle.std.proofs.Common.{◌≡◌, ℕ, List, [], ◌∷◌, IsOkAnd, MatchResult, Ok, Err, codes, Result, sym, ap, ◌∙◌}
 use Rattle.std.specs.Str.{bytes_eq}
 use Rattle.std.proofs.lemmas.Bool.{cond-false}
-use Rattle.parts.specs.Limits.{MuseumIn, DayIn, MinuteIn, PersonsUpTo, NameIs, ALimit, AnElse}
+use Rattle.parts.specs.Limits.{ALimit, AnElse}
 use Rattle.texts.specs.declared.Cause.{Cause}
 use Rattle.texts.specs.declared.Cause.TheVariants.{UnknownWord, MissingWord}
-use Rattle.texts.specs.Cuts.{words_of, one_word, maybe_word}
-use Rattle.words.specs.Lines.{museums_of, span_of, name_of, key_of, limit_of, line_of, line_in}
-use Rattle.texts.specs.Numerals.{number_of}
+use Rattle.texts.specs.Cuts.{words_of, one_word}
+use Rattle.words.specs.Lines.{key_of, limit_of, line_of, line_in}
 use Rattle.texts.specs.Labels.{next}
 use Rattle.texts.specs.Results.{and_then, and_is}
 use Rattle.texts.proofs.Labelling.{differs}
@@ -29,27 +28,11 @@ pub chained : {W Y Z X V : Type 0} {P : W → Type 0} {Q : Y → Z → Type 0} {
     → and_is s now ≡ t → and_is (and_then t f) g ≡ u → MatchResult s P (λ c. m ≡ Err c) → MatchResult m (λ y. IsOkAnd q (Q y)) (λ c. q ≡ Err c) → ((w : W) → P w → and_is m seen ≡ f (now w)) → ((y : Y) (z : Z) → Q y z → view z ≡ g (seen y)) → and_is q view ≡ u
 chained f g now seen view s m q word at h k reads makes = mapped seen view g m q k makes ∙ ap (λ r. and_is r g) (then_read now seen f s m h reads ∙ ap (λ r. and_then r f) word) ∙ at
 
+-- kind is the word v
+pub limit_at : {kind v : List ℕ} (ws : List (List ℕ)) → kind ≡ v → limit_of v ws ≡ limit_of kind ws
+limit_at ws e = ap (λ k. limit_of k ws) (sym e)
+
 module _ (kind : List ℕ) (ws : List (List ℕ)) where
-  pub at_museums : kind ≡ codes "museums" → and_is (and_then (one_word ws) museums_of) MuseumIn ≡ limit_of kind ws
-  unfolding limit_of
-  at_museums e = ap (λ k. limit_of k ws) (sym e)
-
-  pub at_days : kind ≡ codes "days" → and_is (and_then (one_word ws) span_of) (λ s. DayIn s.0 s.1) ≡ limit_of kind ws
-  unfolding limit_of
-  at_days e = ap (λ k. limit_of k ws) (sym e)
-
-  pub at_minutes : kind ≡ codes "minutes" → and_is (and_then (one_word ws) span_of) (λ s. MinuteIn s.0 s.1) ≡ limit_of kind ws
-  unfolding limit_of
-  at_minutes e = ap (λ k. limit_of k ws) (sym e)
-
-  pub at_persons : kind ≡ codes "persons" → and_is (and_then (one_word ws) (number_of 255)) PersonsUpTo ≡ limit_of kind ws
-  unfolding limit_of
-  at_persons e = ap (λ k. limit_of k ws) (sym e)
-
-  pub at_name : kind ≡ codes "name" → and_is (and_then (maybe_word ws) name_of) NameIs ≡ limit_of kind ws
-  unfolding limit_of
-  at_name e = ap (λ k. limit_of k ws) (sym e)
-
   pub at_none : (kind ≡ codes "museums" → ⊥) → (kind ≡ codes "days" → ⊥) → (kind ≡ codes "minutes" → ⊥) → (kind ≡ codes "persons" → ⊥) → (kind ≡ codes "name" → ⊥) → Err UnknownWord ≡ limit_of kind ws
   unfolding limit_of
   at_none a b c d e =

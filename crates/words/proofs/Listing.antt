@@ -1,7 +1,7 @@
 -- Numbers with commas between them. Assumes nothing.
 use Rattle.std.proofs.Common.{◌≡◌, ℕ, ◌+◌, ◌<◌, ◌≤◌, true, false, ltb, List, [], ◌∷◌, ◌++◌, length, take, set, Some, Ok, Err, sym, refl, ap, ◌∙◌, append_assoc, append-nil, arith, length-append, length-set, Bor}
 use Rattle.std.specs.Str.Pattern.{FindsChar}
-use Rattle.std.specs.Str.Iter.{split_text, split_has_more, split_pattern, split_steps}
+use Rattle.std.specs.Str.Iter.{split_has_more, split_pattern, split_steps}
 use Rattle.std.specs.List.{join_with_byte, AllByRecursion}
 use Rattle.std.specs.declared.str.Split.{Split}
 use Rattle.std.proofs.lemmas.List.{take_more_set}
@@ -62,9 +62,6 @@ module _ {list : List ℕ} {count : ℕ} {s : Split ℕ} {word : List ℕ} (old 
         long = length-set list count m ∙ old.long;
         room = omega arith;
       }
-
-pub no_museum_yet : (list : List ℕ) (s : Split ℕ) (word : List ℕ) → length list ≡ 8 → split_has_more s ≡ true → split_text s ≡ word → split_pattern s ≡ 44 → Sofar list 0 s word
-no_museum_yet list s word l e f g = record { rest = rw (e, f); cuts = g; long = l; room = omega arith }
 
 -- ---- parts, and what is joined of them
 

@@ -68,7 +68,7 @@ fn parse_limit(kind: &str, rest: &str) -> Result<Limit, Cause>
         "museums" => only_word(rest).and_then(museums_of).map(Limit::Museums),
         "days" => only_word(rest).and_then(span_of).map(Limit::Days),
         "minutes" => only_word(rest).and_then(span_of).map(Limit::Minutes),
-        // A generic function has no value of its own: a closure stands for it.
+        // Rattle hands no generic function over by its name, so that a closure stands for it.
         "persons" => only_word(rest)
             .and_then(|word| number(word))
             .map(Limit::Persons),

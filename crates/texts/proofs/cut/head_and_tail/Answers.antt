@@ -1,5 +1,4 @@
-use Rattle.std.proofs.Common.{ap, ◌∙◌, arith}
-use Rattle.std.specs.Option.{ok_or}
+use Rattle.std.proofs.Common.{arith}
 use Rattle.texts.specs.declared.Cause.TheVariants.{MissingWord}
 use Rattle.texts.specs.Cuts.{head_tail}
 use Rattle.texts.specs.Results.{both_parts}
@@ -9,5 +8,4 @@ use Rattle.texts.proofs.cut.head_and_tail.Goals as goal
 
 pub returns : goal.returns
 unfolding head_tail
-returns c =
-    or_is both_parts MissingWord c.split_once.result _ c.ok_or.ensures.value ∙ ap (λ o. ok_or o MissingWord) (split_is 58 (omega arith) c.args.text.now c.split_once.result c.split_once.ensures.cases)
+returns c = or_is both_parts MissingWord c.split_once.result _ (split_is 58 (omega arith) c.args.text.now c.split_once.result c.split_once.ensures.cases) c.ok_or.ensures.value
