@@ -1,5 +1,5 @@
 -- Reading by a format, step by step. Assumes nothing.
-use Rattle.std.proofs.Common.{◌≡◌, ℕ, ◌<◌, Bool, true, false, eqb, ltb, [], ◌∷◌, ◌++◌, length, drop, Ok, Err, refl, ap, ◌∙◌, arith, eq-eqb}
+use Rattle.std.proofs.Common.{◌≡◌, ℕ, ◌<◌, Bool, true, false, eqb, ltb, [], ◌∷◌, ◌++◌, length, drop, Ok, Err, sym, refl, ap, ◌∙◌, arith, eq-eqb}
 use Rattle.std.proofs.lemmas.Bool.{cond-true, cond-false, ne_eqb, lt-ltb}
 use Rattle.narrow.specs.Term.{Bytes}
 use Rattle.narrow.specs.Can.{same_bytes}
@@ -33,6 +33,10 @@ module _ {A : Type 0} (f : Format A) where
   unfolding behind
   behind_other k [] ne = refl
   behind_other k (b ∷ bs) ne = cond-false (eqb b k) _ _ (ne_eqb b k (λ e. ne bs (ap (λ (c : ℕ). c ∷ bs) e)))
+
+  -- the same with the fault that was told
+  pub behind_told : (k : ℕ) (bs : Bytes) (e : Fault) → (e ≡ Shape) × ((rest : Bytes) → bs ≡ k ∷ rest → ⊥) → (behind k f).read bs ≡ Err e
+  behind_told k bs e q = behind_other k bs q.1 ∙ ap Err (sym q.0)
 
   module _ (t : A → Bool) (g : Fault) (bs : Bytes) where
     pub only_on : (a : A) (rest : Bytes) → f.read bs ≡ Ok (a, rest) → t a ≡ true → (only t g f).read bs ≡ Ok (a, rest)

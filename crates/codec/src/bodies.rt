@@ -74,7 +74,7 @@ pub fn write_content(out: &mut Vec<u8>, body: &YesBody) -> Result<(), AllocError
     write_row(out, &body.limits)
 }
 
-// A count, and the lines as they are carried.
+// A count, and the lines as they are carried. That the count fits a byte is proved, so that it is cast.
 fn write_row(out: &mut Vec<u8>, lines: &Lines) -> Result<(), AllocError>
     ensures { IfOk result (λ _. out.new.items ≡ out.old.items ++ length (rows lines.now) ∷ wire (rows lines.now)) }
 {

@@ -1,6 +1,6 @@
 // What the first byte of a thing tells.
 
-/// The kinds of things, by their first byte. That of a wish, 21, stands in the crate `wishes`, which knows of no other.
+/// The kinds of things, each with its first byte. That of a wish, 21, stands in the crate `wishes`, which knows of no other.
 #[derive(Clone, Copy, PartialEq, Eq, Debug)]
 pub enum Kind {
     Ticket = 16,

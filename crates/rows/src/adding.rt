@@ -1,4 +1,5 @@
-// Making a row longer, and its lines.
+// Making a row longer, and its lines. Numbers are cast by `as`, as it is proved that nothing is lost: a conversion that may fail would add
+// a refusal that can't be.
 ghost use Rattle.std.specs.Prelude.{◌≡◌, ℕ, ◌+◌, ◌<◌, ◌≤◌, List, [], ◌∷◌, ◌++◌, length, drop, MatchOption, slice_index_or};
 ghost use Rattle.rows.specs.Due.{ChangedAs};
 ghost use Rattle.rows.specs.Row.{rows};

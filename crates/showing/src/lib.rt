@@ -55,7 +55,7 @@ fn read_yeses(heap: Global, reader: &mut Reader<'_>) -> Result<Vec<TiedYes>, Unr
         return Err(Unread::Bad(Fault::TooMany));
     }
     let mut yeses = Vec::new(heap);
-    // A chain that is collected into a `Result` doesn't say at which fault it stops.
+    // As a chain, its closure would change the reader, and a proof learns nothing of what a closure changes.
     for _ in 0..count {
         let yes = TiedYes::read(reader)?;
         yeses.push(yes)?;

@@ -1,5 +1,5 @@
 use super::tables::{HOUSE, KEY, PAIRS, PASSED, TICKETS, TIED, TOLD, YESES};
-use codec::{Coded, Kind, from_bytes};
+use codec::{Coded, Kind, from_bytes, write_all};
 use hmac::Mac;
 use lines::Fault;
 use std::alloc::Global;
@@ -64,6 +64,7 @@ fn made(rt: HostRuntime) -> Result<(), Fail> {
 fn reads_back<T: Coded + Drop>(rt: &impl Abort, heap: Global, bytes: &[u8]) -> Result<(), Fail> {
     let thing: T = from_bytes(bytes)?;
     is(rt, heap, &thing, bytes)?;
+    // Each length has an assertion of its own, which tells the one that fails.
     for n in 0..bytes.len() {
         assert_eq!(rt; from_bytes::<T>(&bytes[0..n]).err(), SHAPE);
     }
@@ -86,6 +87,21 @@ fn read_back(rt: HostRuntime) -> Result<(), Fail> {
     reads_back::<TiedYes>(&rt, heap, TIED)?;
     reads_back::<PassedYes>(&rt, heap, PASSED)?;
     reads_back::<YesKey>(&rt, heap, KEY)
+}
+
+// Things are written one behind the other.
+#[test]
+fn written(rt: HostRuntime) -> Result<(), Fail> {
+    let heap = rt.alloc();
+    let yeses: [Yes; 2] = [from_bytes(YESES[0])?, from_bytes(YESES[1])?];
+    let mut out = Vec::new(heap);
+    write_all(&mut out, &yeses)?;
+    let mut due = Vec::new(heap);
+    for yes in YESES {
+        due.extend_from_slice(yes)?;
+    }
+    assert_eq!(rt; out.as_slice(), due.as_slice());
+    Ok(())
 }
 
 fn told_as(kind: Kind, bytes: &[u8]) -> Option<Fault> {

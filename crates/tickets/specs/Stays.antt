@@ -11,7 +11,7 @@ use Rattle.lines.specs.declared.Place.TheVariants as place
 use Rattle.rows.specs.Standing.{most_at, stands, pushed}
 use Rattle.rows.proofs.Exactly.{mapped_value}
 use Rattle.rows.proofs.Pushing.{push_parts}
-use Rattle.tickets.specs.Made.{ATicket, AYes, Secrets, by_hmac, Right, StaysRight}
+use Rattle.tickets.specs.Made.{ATicket, AYes, Secrets, by_hmac, StaysRight}
 use Rattle.tickets.specs.Making.{Maced, ticket_longer, yes_longer, added}
 
 module _ {A : Type 0} (longer : A → Bytes → Result A Fault) (t u : Maced A) (l : Bytes) (e : added longer t l ≡ Ok u) where

@@ -1,4 +1,3 @@
-use Rattle.std.proofs.Common.{◌∙◌}
 use Rattle.codec.proofs.Laid.{laid_last, laid_row}
 use Rattle.codec.proofs.bodies.write_row.Goals as goal
 

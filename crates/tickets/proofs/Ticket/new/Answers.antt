@@ -1,7 +1,6 @@
 use Rattle.std.proofs.Common.{◌≡◌, List, Ok, sym, ap, ◌∙◌}
 use Rattle.std.proofs.lemmas.Result.{err_from_is_err_and}
 use Rattle.narrow.specs.Term.{Bytes}
-use Rattle.narrow.specs.Ticket as model
 use Rattle.numbers.specs.Bytes.{four_bytes}
 use Rattle.hmac.specs.Hmac.{hmac_of}
 use Rattle.rows.specs.Row.{rows}

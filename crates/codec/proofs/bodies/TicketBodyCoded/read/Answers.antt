@@ -1,4 +1,4 @@
-use Rattle.std.proofs.Common.{length, Err, sym, refl, ap, ◌∙◌, arith}
+use Rattle.std.proofs.Common.{length, Err, refl, ap, ◌∙◌, arith}
 use Rattle.std.proofs.lemmas.Option.{MatchOption-at_some}
 use Rattle.std.proofs.lemmas.Result.{err_from_is_err_and}
 use Rattle.std.proofs.lemmas.Bool.{lt-ltb, le-ltb}
@@ -10,14 +10,13 @@ use Rattle.numbers.specs.Bytes.{four_bytes}
 use Rattle.codec.specs.Format.{fixed, row}
 use Rattle.codec.specs.Things.{ticket_kind, number_length}
 use Rattle.codec.proofs.Combined.{fixed_join}
-use Rattle.codec.proofs.Steps.{fixed_short, behind_on, behind_other, named_on, named_stop, both_first, both_second, both_on, only_on, only_other, only_stop}
+use Rattle.codec.proofs.Steps.{fixed_short, behind_on, behind_told, named_on, named_stop, both_first, both_second, both_on, only_on, only_other, only_stop}
 use Rattle.codec.proofs.bodies.TicketBodyCoded.read.Goals as goal
 
 pub returns-in_err-read_kind : goal.returns-in_err-read_kind
 returns-in_err-read_kind c =
     let p = err_from_is_err_and c.from_residual.result c.from_residual.ensures.1 in
-    let q = c.in_err-read_kind.ensures in
-    rw (p.1, p.2) (behind_other _ ticket_kind c.args.reader.now.rest.now q.1 ∙ ap Err (sym q.0))
+    rw (p.1, p.2) (behind_told _ ticket_kind _ _ c.in_err-read_kind.ensures)
 
 pub returns-in_err-number : goal.returns-in_err-number
 returns-in_err-number c =

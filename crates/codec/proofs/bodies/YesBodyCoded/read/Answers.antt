@@ -1,14 +1,13 @@
-use Rattle.std.proofs.Common.{Err, sym, ap, ◌∙◌}
+use Rattle.std.proofs.Common.{◌∙◌}
 use Rattle.std.proofs.lemmas.Result.{err_from_is_err_and, MatchResult-weaker}
 use Rattle.codec.specs.Things.{yes_kind}
-use Rattle.codec.proofs.Steps.{behind_on, behind_other}
+use Rattle.codec.proofs.Steps.{behind_on, behind_told}
 use Rattle.codec.proofs.bodies.YesBodyCoded.read.Goals as goal
 
 pub returns-in_err-read_kind : goal.returns-in_err-read_kind
 returns-in_err-read_kind c =
     let p = err_from_is_err_and c.from_residual.result c.from_residual.ensures.1 in
-    let q = c.in_err-read_kind.ensures in
-    rw (p.1, p.2) (behind_other _ yes_kind c.args.reader.now.rest.now q.1 ∙ ap Err (sym q.0))
+    rw (p.1, p.2) (behind_told _ yes_kind _ _ c.in_err-read_kind.ensures)
 
 pub returns : goal.returns
 returns c =

@@ -1,14 +1,13 @@
-use Rattle.std.proofs.Common.{Err, sym, ap, ◌∙◌}
+use Rattle.std.proofs.Common.{◌∙◌}
 use Rattle.std.proofs.lemmas.Result.{err_from_is_err_and}
-use Rattle.codec.specs.Things.{tied_kind, yes_body_format}
-use Rattle.codec.proofs.Steps.{behind_on, behind_other, maced_first, maced_second, maced_on}
+use Rattle.codec.specs.Things.{tied_kind}
+use Rattle.codec.proofs.Steps.{behind_on, behind_told, maced_first, maced_second, maced_on}
 use Rattle.codec.proofs.kinds.TiedYesCoded.read.Goals as goal
 
 pub returns-in_err-read_kind : goal.returns-in_err-read_kind
 returns-in_err-read_kind c =
     let p = err_from_is_err_and c.from_residual.result c.from_residual.ensures.1 in
-    let q = c.in_err-read_kind.ensures in
-    rw (p.1, p.2) (maced_first _ _ _ (behind_other _ tied_kind c.args.reader.now.rest.now q.1 ∙ ap Err (sym q.0)))
+    rw (p.1, p.2) (maced_first _ _ _ (behind_told _ tied_kind _ _ c.in_err-read_kind.ensures))
 
 pub returns-in_err-body : goal.returns-in_err-body
 returns-in_err-body c =
