@@ -7,7 +7,7 @@ ghost use Rattle.rows.specs.Row.{rows};
 use crate::row::Lines;
 
 /// The lines that are left, each handed on as a part of the row.
-#[derive(Clone, Copy)]
+#[derive(Drop)]
 pub struct Each<'a> {
     lines: &'a Lines,
     at: usize,
