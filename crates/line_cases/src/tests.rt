@@ -5,40 +5,27 @@ use std::test::Fail;
 
 const WISH: &[u8] = b"\x15\x03\x00\x09\x02\x58\x02\x03ada";
 
-fn number(fault: Fault) -> u8 {
-    match fault {
-        Fault::Shape => 1,
-        Fault::Unreadable => 2,
-        Fault::TooMany => 3,
-        Fault::Range => 4,
-    }
-}
-
 // What is told of a wish that is all of the bytes.
-fn wish_of(bytes: &[u8]) -> Result<Wish, u8> {
-    let Some((raw, rest)) = read_wish(bytes) else {
-        return Err(1);
-    };
+fn wish_of(bytes: &[u8]) -> Result<Wish, Fault> {
+    let (raw, rest) = read_wish(bytes).ok_or(Fault::Shape)?;
     if !rest.is_empty() {
-        return Err(1);
+        return Err(Fault::Shape);
     }
-    let Some(wish) = raw.in_range() else {
-        return Err(4);
-    };
-    Ok(wish)
+    raw.in_range().ok_or(Fault::Range)
 }
 
-// A line is written as the bytes that it was read from, and leaves what follows as it was; with a byte too little it leaves all.
-fn writes_back(rt: &impl Abort, line: Line, bytes: &[u8]) {
+// What was read is written as the bytes that it was read from, and leaves what follows as it was; with a byte too little it leaves all.
+fn writes_back<W: Fn(&mut [u8]) -> Option<usize>>(rt: &impl Abort, write: W, bytes: &[u8])
+    requires { W.IsAlwaysCallable write }
+{
     let mut out = [7; 64];
-    assert_eq!(rt; line.len(), bytes.len());
-    assert_eq!(rt; line.write(&mut out), Some(bytes.len()));
+    assert_eq!(rt; write(&mut out), Some(bytes.len()));
     assert!(rt; bytes.len() < 64);
     assert!(rt; &out[0..bytes.len()] == bytes);
     assert_eq!(rt; out[bytes.len()], 7);
     let mut short = [7; 64];
     assert!(rt; 0 < bytes.len());
-    assert_eq!(rt; line.write(&mut short[0..bytes.len() - 1]), None);
+    assert_eq!(rt; write(&mut short[0..bytes.len() - 1]), None);
     assert_eq!(rt; short, [7; 64]);
 }
 
@@ -48,24 +35,12 @@ fn lines_told(rt: HostRuntime) {
         match read_line(bytes) {
             Ok(line) => {
                 assert_eq!(rt; fault, 0);
-                writes_back(&rt, line, bytes);
+                assert_eq!(rt; line.len(), bytes.len());
+                writes_back(&rt, |out: &mut [u8]| line.write(out), bytes);
             }
-            Err(met) => assert_eq!(rt; number(met), fault),
+            Err(met) => assert_eq!(rt; u8::from(met), fault),
         }
     }
-}
-
-fn wish_writes_back(rt: &impl Abort, wish: Wish, bytes: &[u8]) {
-    let mut out = [7; 64];
-    assert_eq!(rt; wish.len(), bytes.len());
-    assert_eq!(rt; wish.write(&mut out), Some(bytes.len()));
-    assert!(rt; bytes.len() < 64);
-    assert!(rt; &out[0..bytes.len()] == bytes);
-    assert_eq!(rt; out[bytes.len()], 7);
-    let mut short = [7; 64];
-    assert!(rt; 0 < bytes.len());
-    assert_eq!(rt; wish.write(&mut short[0..bytes.len() - 1]), None);
-    assert_eq!(rt; short, [7; 64]);
 }
 
 #[test]
@@ -74,9 +49,10 @@ fn wishes_told(rt: HostRuntime) {
         match wish_of(bytes) {
             Ok(wish) => {
                 assert_eq!(rt; fault, 0);
-                wish_writes_back(&rt, wish, bytes);
+                assert_eq!(rt; wish.len(), bytes.len());
+                writes_back(&rt, |out: &mut [u8]| wish.write(out), bytes);
             }
-            Err(met) => assert_eq!(rt; met, fault),
+            Err(met) => assert_eq!(rt; u8::from(met), fault),
         }
     }
 }
@@ -96,13 +72,9 @@ fn rest_follows(rt: HostRuntime) -> Result<(), Fail> {
 
 #[test]
 fn limits_hold(rt: HostRuntime) -> Result<(), Fail> {
-    let Ok(wish) = wish_of(WISH) else {
-        return Err(Fail::new("no wish"));
-    };
+    let wish = wish_of(WISH).ok().ok_or("no wish")?;
     for (bytes, holds) in LIMITS {
-        let Ok(line) = read_line(bytes) else {
-            return Err(Fail::new("no line"));
-        };
+        let line = read_line(bytes).ok().ok_or("no line")?;
         assert!(rt; line.may_stand(Place::Ticket));
         assert!(rt; line.may_stand(Place::Yes));
         let Line::Limit(limit) = line else {
@@ -115,9 +87,7 @@ fn limits_hold(rt: HostRuntime) -> Result<(), Fail> {
 
 #[test]
 fn an_else_stands_on_tickets(rt: HostRuntime) -> Result<(), Fail> {
-    let Ok(line) = read_line(b"\x06\x00\x05") else {
-        return Err(Fail::new("no line"));
-    };
+    let line = read_line(b"\x06\x00\x05").ok().ok_or("no line")?;
     assert!(rt; line.may_stand(Place::Ticket));
     assert!(rt; !line.may_stand(Place::Yes));
     Ok(())

@@ -4,6 +4,7 @@ use Rattle.std.proofs.lemmas.List.{nil_from_length}
 use Rattle.std.proofs.lemmas.Bool.{and_parts, and_from, leb-true, le-leb}
 use Rattle.numbers.specs.Bytes.{two_bytes}
 use Rattle.numbers.specs.Places.{number}
+use Rattle.numbers.proofs.Bytes.{all_places}
 use Rattle.parts.specs.Limits.{LimitView, ALimit, AnElse, MuseumIn, DayIn, MinuteIn, PersonsUpTo, NameIs, is_museums, is_name, is_span, is_limit}
 use Rattle.wishes.specs.Format.{counted_bytes}
 use Rattle.lines.specs.declared.Fault.TheVariants.{Shape, Unreadable}
@@ -12,7 +13,6 @@ use Rattle.lines.specs.declared.kinds.Kind.TheVariants as kinds
 use Rattle.lines.specs.Format.{span_bytes, limit_bytes}
 use Rattle.lines.specs.Kinds.{kind_number}
 use Rattle.lines.specs.Reading.{line_guess, line_of}
-use Rattle.lines.proofs.Rows.{one_only}
 use Rattle.lines.proofs.Decoding.{no_guess_at, line_read_is, line_not_read, line_no_kind}
 
 pub no_line : (bs : List ℕ) → length bs < 1 → Err Shape ≡ line_of bs
@@ -82,7 +82,7 @@ module _ (content : List ℕ) where
 
   pub persons_line : (n : ℕ) → (length content ≡ 1) × (n ≡ get_or content 0 0) → get_or content 0 0 < 256 → Ok (ALimit (PersonsUpTo n)) ≡ line_of (4 ∷ content)
   persons_line n h byte =
-      let whole = one_only content h.0 in
+      let whole = all_places 1 content h.0 in
       let first = h.1 in
       sym (line_read_is (ALimit (PersonsUpTo n)) (4 ∷ content) (le-leb n 255 (omega arith)) (cc))
 

@@ -1,16 +1,11 @@
 -- Rows of bytes, element by element. Assumes nothing.
-use Rattle.std.proofs.Common.{◌≡◌, ℕ, Bool, eqb, List, [], ◌∷◌, length, get_or, Decides, refl, arith}
+use Rattle.std.proofs.Common.{◌≡◌, ℕ, Bool, eqb, List, Decides, refl}
 use Rattle.std.specs.List.{IsAnyAnswer}
 use Rattle.std.proofs.lemmas.List.Elements.{contains_decides}
 use Rattle.std.proofs.lemmas.Bool.Decides.{same_from_decides, Decides-eqb, Decides-by_or}
 use Rattle.narrow.specs.Rows.{any}
 use Rattle.narrow.specs.Can.{same_bytes}
 use Rattle.narrow.proofs.Can.{same_bytes_lem}
-
-pub one_only : (xs : List ℕ) → length xs ≡ 1 → xs ≡ get_or xs 0 0 ∷ []
-one_only [] h = absurd (omega arith)
-one_only (x ∷ []) h = refl
-one_only (x ∷ y ∷ xs) h = absurd (omega arith)
 
 -- what `contains` answers
 pub contains_is : (x : ℕ) (xs ys : List ℕ) (r : Bool) → ys ≡ xs → IsAnyAnswer (λ y t. eqb y x ≡ t) ys r → r ≡ any (λ m. eqb m x) xs

@@ -9,7 +9,7 @@ use Rattle.narrow.proofs.Can.{same_bytes_lem}
 use Rattle.narrow.proofs.Rows.{contradiction}
 use Rattle.numbers.specs.Bytes.{two}
 use Rattle.numbers.specs.Places.{byte, number, AreBytes}
-use Rattle.numbers.proofs.Bytes.{two_in_front}
+use Rattle.numbers.proofs.Bytes.{two_in_front, all_places}
 use Rattle.parts.specs.Limits.{MuseumIn, DayIn, MinuteIn, PersonsUpTo, NameIs, LineView, ALimit, AnElse, within, is_museum, is_letter, is_span, is_line}
 use Rattle.wishes.specs.Format.{counted_bytes}
 use Rattle.lines.specs.declared.Fault.{Fault}
@@ -74,22 +74,13 @@ counted kind least most low high xs enough not_more h =
 Written : List ℕ → Type 0
 Written bs = (v : LineView) × (is_line v ≡ true) × (bs ≡ line_bytes v)
 
-five : (bs : List ℕ) → length bs ≡ 5 → bs ≡ byte bs 0 ∷ byte bs 1 ∷ byte bs 2 ∷ byte bs 3 ∷ byte bs 4 ∷ []
-five [] h = absurd (omega arith)
-five (a ∷ []) h = absurd (omega arith)
-five (a ∷ b ∷ []) h = absurd (omega arith)
-five (a ∷ b ∷ c ∷ []) h = absurd (omega arith)
-five (a ∷ b ∷ c ∷ d ∷ []) h = absurd (omega arith)
-five (a ∷ b ∷ c ∷ d ∷ e ∷ []) h = refl
-five (a ∷ b ∷ c ∷ d ∷ e ∷ f ∷ xs) h = absurd (omega arith)
-
 -- a span by its bytes
 span_of : (kind : ℕ) (bs : List ℕ) → AreBytes bs → SpanLine kind bs → (is_span (number bs 1) (number bs 3) ≡ true) × (bs ≡ kind ∷ span_bytes (number bs 1) (number bs 3))
 span_of kind bs bytes s =
     let from = two_in_front (byte bs 1) (byte bs 2) [] (bytes 2) in
     let to = two_in_front (byte bs 3) (byte bs 4) [] (bytes 4) in
     let k = s.kind_is in
-    let whole = five bs s.long in
+    let whole = all_places 5 bs s.long in
     (and_from (leb (number bs 1) (number bs 3)) (leb (number bs 3) 65535) (le-leb (number bs 1) (number bs 3) s.ordered) (le-leb (number bs 3) 65535 (omega (arith, bytes 3, bytes 4))), cc)
 
 -- bytes of the format's shapes are those of a line that can be
@@ -103,24 +94,11 @@ shape_written bs bytes (of_name c) =
     (ALimit (NameIs h.xs), and_from (leb (length h.xs) 32) (all is_letter h.xs) (le-leb (length h.xs) 32 h.not_more) h.each, h.whole)
 shape_written bs bytes (of_days s) = let h = span_of 2 bs bytes s in (ALimit (DayIn (number bs 1) (number bs 3)), h.0, h.1)
 shape_written bs bytes (of_minutes s) = let h = span_of 3 bs bytes s in (ALimit (MinuteIn (number bs 1) (number bs 3)), h.0, h.1)
-shape_written bs bytes (of_persons k long) = (ALimit (PersonsUpTo (byte bs 1)), le-leb (byte bs 1) 255 (omega (arith, bytes 1)), two_only bs long ∙ ap (λ (n : ℕ). n ∷ byte bs 1 ∷ []) k)
-  where
-    two_only : (xs : List ℕ) → length xs ≡ 2 → xs ≡ byte xs 0 ∷ byte xs 1 ∷ []
-    two_only [] h = absurd (omega arith)
-    two_only (a ∷ []) h = absurd (omega arith)
-    two_only (a ∷ b ∷ []) h = refl
-    two_only (a ∷ b ∷ c ∷ xs) h = absurd (omega arith)
+shape_written bs bytes (of_persons k long) = let whole = all_places 2 bs long in (ALimit (PersonsUpTo (byte bs 1)), le-leb (byte bs 1) 255 (omega (arith, bytes 1)), cc)
 shape_written bs bytes (of_else k long small) =
-    let whole = three bs long in
+    let whole = all_places 3 bs long in
     let key = two_in_front (byte bs 1) (byte bs 2) [] (bytes 2) in
     (AnElse (number bs 1), le-leb (number bs 1) 4095 small, cc)
-  where
-    three : (xs : List ℕ) → length xs ≡ 3 → xs ≡ byte xs 0 ∷ byte xs 1 ∷ byte xs 2 ∷ []
-    three [] h = absurd (omega arith)
-    three (a ∷ []) h = absurd (omega arith)
-    three (a ∷ b ∷ []) h = absurd (omega arith)
-    three (a ∷ b ∷ c ∷ []) h = refl
-    three (a ∷ b ∷ c ∷ d ∷ xs) h = absurd (omega arith)
 
 still_ordered : (a b : ℕ) → is_span a b ≡ true → two (a / 256) (a % 256) ≤ two (b / 256) (b % 256)
 still_ordered a b h = let le = leb-true a b (and_parts (leb a b) (leb b 65535) h).0 in omega arith

@@ -3,7 +3,7 @@
 
 ghost use Rattle.lines.specs.Format.{line_bytes};
 ghost use Rattle.lines.specs.Meaning.{holds_for, may_stand};
-ghost use Rattle.lines.specs.Reading.{line_of};
+ghost use Rattle.lines.specs.Reading.{fault_number, line_of};
 ghost use Rattle.lines.specs.Shapes.{Tells};
 ghost use Rattle.lines.specs.Views.{limit_view, line_view, line_read};
 ghost use Rattle.numbers.specs.Lent.{WritesFront};
@@ -22,17 +22,25 @@ use reading::read_content;
 pub use wishes::{RawWish, Wish, read_wish};
 use writing::write_line;
 
-/// What is wrong with bytes that can't be read. Its number is given by `fault_number` in specs/.
+/// What is wrong with bytes that can't be read, each with its number.
 #[derive(Clone, Copy, PartialEq, Eq, Debug)]
 pub enum Fault {
     /// An unknown kind, or an input that ends early or late.
-    Shape,
+    Shape = 1,
     /// A line that can't be: a museum, a key, a count or a letter out of range, a length that is not its kind's, a span that ends before it begins.
-    Unreadable,
+    Unreadable = 2,
     /// More lines, limits, yeses or given things than there may be.
-    TooMany,
+    TooMany = 3,
     /// A wish out of range.
-    Range,
+    Range = 4,
+}
+
+impl From<Fault> for u8 {
+    ghost from_gives = { λ fault n. n ≡ fault_number fault };
+
+    fn from(fault: Fault) -> u8 {
+        fault as u8
+    }
 }
 
 /// What must hold of a wish (a first-party caveat).

@@ -22,6 +22,7 @@ impl<'a> Reader<'a> {
         self.rest.is_empty()
     }
 
+    // An element needs no trait: the slice's own method takes it.
     pub fn byte(&mut self) -> Option<u8>
         ensures { MatchOption result
             ((length self.old.rest.now < 1) × (self.new.rest.now ≡ self.old.rest.now))

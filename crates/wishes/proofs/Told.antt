@@ -1,10 +1,10 @@
 -- What is read as a wish, against the format in its own words. Assumes nothing.
-use Rattle.std.proofs.Common.{◌≡◌, ℕ, ◌≤◌, true, List, [], ◌∷◌, ◌++◌, length, drop, is_some, Some, sym, refl, ap, subst, arith, length-append, length-drop}
+use Rattle.std.proofs.Common.{◌≡◌, ℕ, ◌≤◌, true, List, [], ◌++◌, length, drop, is_some, Some, sym, refl, ap, subst, arith, length-append, length-drop}
 use Rattle.std.proofs.lemmas.List.{length-take-le, take-append-drop}
 use Rattle.narrow.specs.Can.{same_bytes}
 use Rattle.narrow.proofs.Rows.{some_value, some_is, when_true_is}
 use Rattle.numbers.specs.Places.{byte, AreBytes}
-use Rattle.numbers.proofs.Bytes.{two_in_front}
+use Rattle.numbers.proofs.Bytes.{two_in_front, by_places}
 use Rattle.parts.specs.Limits.{WishView}
 use Rattle.wishes.specs.Format.{wish_bytes}
 use Rattle.wishes.specs.Reading.{wish_guess, wish_of}
@@ -19,22 +19,11 @@ pub wishes_exact : WishesExact
 wishes_exact = wish_read_only
 
 -- the bytes that begin with a wish, as one that was written
-eight : (bs : List ℕ) → 8 ≤ length bs → bs ≡ byte bs 0 ∷ byte bs 1 ∷ byte bs 2 ∷ byte bs 3 ∷ byte bs 4 ∷ byte bs 5 ∷ byte bs 6 ∷ byte bs 7 ∷ drop 8 bs
-eight [] h = absurd (omega arith)
-eight (a ∷ []) h = absurd (omega arith)
-eight (a ∷ b ∷ []) h = absurd (omega arith)
-eight (a ∷ b ∷ c ∷ []) h = absurd (omega arith)
-eight (a ∷ b ∷ c ∷ d ∷ []) h = absurd (omega arith)
-eight (a ∷ b ∷ c ∷ d ∷ e ∷ []) h = absurd (omega arith)
-eight (a ∷ b ∷ c ∷ d ∷ e ∷ f ∷ []) h = absurd (omega arith)
-eight (a ∷ b ∷ c ∷ d ∷ e ∷ f ∷ g ∷ []) h = absurd (omega arith)
-eight (a ∷ b ∷ c ∷ d ∷ e ∷ f ∷ g ∷ i ∷ xs) h = refl
-
 front_written : (bs : List ℕ) → AreBytes bs → WishFront bs → bs ≡ wish_bytes (wish_guess bs) ++ drop (byte bs 7) (drop 8 bs)
 front_written bs bytes f =
     let k = f.kind_is in
     let room : byte bs 7 ≤ length (drop 8 bs) = omega (arith, f.long, length-drop 8 bs) in
-    let whole = eight bs (omega (arith, f.long)) in
+    let whole = by_places 8 bs (omega (arith, f.long)) in
     let day = two_in_front (byte bs 2) (byte bs 3) [] (bytes 3) in
     let minute = two_in_front (byte bs 4) (byte bs 5) [] (bytes 5) in
     let long = length-take-le (byte bs 7) (drop 8 bs) room in

@@ -17,6 +17,7 @@ use parts::Name;
 pub use wish::{RawWish, Wish};
 
 /// The kind of a wish, its first byte. There follow museum (1 byte), day (2), minute (2), persons (1), how many letters (1), each (1).
+// No other kind is told apart from it here, so it is a number and no enum.
 const WISH_KIND: u8 = 21;
 
 /// Reads a wish at the front by its lengths alone, and gives the bytes that follow it; `None`, if there is none, is the fault `Shape`.

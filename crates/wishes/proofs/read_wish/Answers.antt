@@ -1,6 +1,6 @@
-use Rattle.std.proofs.Common.{rules, ◌≡◌, ℕ, ◌-◌, ◌<◌, List, length, get_or, take, drop, ap, arith, length-drop, take-append-drop}
+use Rattle.std.proofs.Common.{rules, ◌≡◌, ℕ, ◌-◌, ◌<◌, ◌≤◌, List, ◌∷◌, length, get_or, take, drop, sym, ap, ◌∙◌, arith, length-drop, take-append-drop}
 use Rattle.std.proofs.lemmas.List.{take_rest}
-use Rattle.numbers.proofs.Bytes.{two_and_rest}
+use Rattle.numbers.proofs.Bytes.{by_places}
 use Rattle.wishes.proofs.Decoding.{wish_too_short, wish_other_kind, wish_cut, wish_whole}
 use Rattle.wishes.proofs.read_wish.Goals as goal
 
@@ -10,6 +10,9 @@ after_two xs = take (length xs - 2) (drop 2 xs)
 
 after_two_length : (xs : List ℕ) → length (after_two xs) ≡ length xs - 2
 after_two_length xs = rw take_rest (length-drop 2 xs)
+
+first_two : (xs : List ℕ) → 2 ≤ length xs → xs ≡ get_or xs 0 0 ∷ get_or xs 1 0 ∷ after_two xs
+first_two xs long = by_places 2 xs long ∙ ap (λ (rest : List ℕ). get_or xs 0 0 ∷ get_or xs 1 0 ∷ rest) (sym (take_rest xs 2))
 
 pub returns-in_default : goal.returns-in_default
 returns-in_default c = let short : length c.args.bytes.now < 2 = search rules in wish_too_short c.args.bytes.now (omega arith)
@@ -37,10 +40,10 @@ pub returns-in_err-name : goal.returns-in_err-name
 returns-in_err-name c =
     let bytes = c.args.bytes.now in
     let last = c.in_ok-minute.rest.now in
-    let front = two_and_rest bytes (search rules) in
+    let front = first_two bytes (search rules) in
     let day = c.in_ok-day.ensures in
     let minute = c.in_ok-minute.ensures in
-    let name = two_and_rest last (search rules) in
+    let name = first_two last (search rules) in
     rw c.from_residual-in_err-name.ensures
     (wish_cut bytes (after_two last) (get_or bytes 0 0) (get_or bytes 1 0) c.in_ok-day.day c.in_ok-minute.minute (get_or last 0 0) c.from.result (cc) c.in_err-name.ensures.cases)
 
@@ -48,10 +51,10 @@ pub returns : goal.returns
 returns c =
     let bytes = c.args.bytes.now in
     let last = c.in_ok-minute.rest.now in
-    let front = two_and_rest bytes (search rules) in
+    let front = first_two bytes (search rules) in
     let day = c.in_ok-day.ensures in
     let minute = c.in_ok-minute.ensures in
-    let name = two_and_rest last (search rules) in
+    let name = first_two last (search rules) in
     let (room, front_is, rest_is, long, more) = c.in_ok-name.ensures.cases in
     wish_whole bytes (after_two last) c.in_ok-name.name.now c.in_ok-name.rest.now (get_or bytes 0 0) (get_or bytes 1 0) c.in_ok-day.day c.in_ok-minute.minute
     (get_or last 0 0) c.from.result (cc) c.if-kind-ne-WISH_KIND.false long (search (rules, take-append-drop))
