@@ -5,7 +5,6 @@ use denote.Struct.Props.{props}
 use Rattle.std.specs.Result.{result_map_both}
 use Rattle.std.proofs.lemmas.List.{length_push}
 use Rattle.narrow.specs.Term.{Bytes}
-use Rattle.narrow.specs.Ticket as model
 use Rattle.narrow.proofs.Rows.{contradiction}
 use Rattle.hmac.specs.Hmac.{hmac_of}
 use Rattle.lines.specs.declared.Fault.{Fault}
@@ -20,7 +19,7 @@ use Rattle.rows.proofs.Pushing.{push_parts}
 use Rattle.tickets.specs.declared.bodies.TicketBody.{TicketBody}
 use Rattle.tickets.specs.declared.bodies.YesBody.{YesBody}
 use Rattle.tickets.specs.Places.{on_ticket, on_yes}
-use Rattle.tickets.specs.Making.{Maced, ticket_longer, yes_longer, added}
+use Rattle.tickets.specs.Making.{Maced, added}
 
 pub ticket_place : (p : Place) → on_ticket p ≡ true → p ≡ place.Ticket
 ticket_place place.Ticket e = refl
@@ -52,21 +51,10 @@ yes_back b ls x e =
     let one : (r : Lines) → IsProp (on_yes r.place ≡ true) = λ r. hlevel props in
     λ i. record { key = b.key; limits = e i; stands = is_prop→PathP (λ j. on_yes (e j).place ≡ true) (λ j. one (e j)) x b.stands i }
 
--- what comes of adding, by what came of making the row longer
-module _ (p : Place) (l : Bytes) where
-  pub ticket_grown : (t : model.Ticket) → p ≡ place.Ticket → (ls : List Bytes) → pushed p t.lines l ≡ Ok ls →
-      ticket_longer t l ≡ Ok (record { number = t.number; lines = ls })
-  ticket_grown t at ls e = ap (result_map_both _ (λ f. f)) (ap (λ q. pushed q t.lines l) (sym at) ∙ e)
-
-  pub ticket_refused : (t : model.Ticket) → p ≡ place.Ticket → (f : Fault) → pushed p t.lines l ≡ Err f → ticket_longer t l ≡ Err f
-  ticket_refused t at f e = ap (result_map_both _ (λ g. g)) (ap (λ q. pushed q t.lines l) (sym at) ∙ e)
-
-  pub yes_grown : (y : model.Yes) → p ≡ place.Yes → (ls : List Bytes) → pushed p y.lines l ≡ Ok ls →
-      yes_longer y l ≡ Ok (record { key = y.key; lines = ls })
-  yes_grown y at ls e = ap (result_map_both _ (λ f. f)) (ap (λ q. pushed q y.lines l) (sym at) ∙ e)
-
-  pub yes_refused : (y : model.Yes) → p ≡ place.Yes → (f : Fault) → pushed p y.lines l ≡ Err f → yes_longer y l ≡ Err f
-  yes_refused y at f e = ap (result_map_both _ (λ g. g)) (ap (λ q. pushed q y.lines l) (sym at) ∙ e)
+-- what comes of making the whole longer, by what came of making its row longer
+pub longer_at : {A : Type 0} (whole : List Bytes → A) (p q : Place) (ls : List Bytes) (l : Bytes) (r : Result (List Bytes) Fault) → p ≡ q → pushed p ls l ≡ r →
+    result_map_both whole (λ f. f) (pushed q ls l) ≡ result_map_both whole (λ f. f) r
+longer_at whole p q ls l r at e = ap (result_map_both whole (λ f. f)) (ap (λ o. pushed o ls l) (sym at) ∙ e)
 
 -- the same with a MAC, by what came of making the body longer
 module _ {A : Type 0} (longer : A → Bytes → Result A Fault) (t : Maced A) (l : Bytes) where

@@ -2,8 +2,7 @@ use Rattle.std.proofs.Common.{ap, ◌∙◌}
 use Rattle.std.proofs.lemmas.Result.{MatchResult-weaker}
 use Rattle.rows.specs.Row.{rows}
 use Rattle.tickets.specs.Places.{on_ticket}
-use Rattle.tickets.specs.Views.{ticket_body}
-use Rattle.tickets.proofs.Changed.{ticket_place, ticket_grown, ticket_refused, ticket_back, still_some}
+use Rattle.tickets.proofs.Changed.{ticket_place, longer_at, ticket_back, still_some}
 use Rattle.tickets.proofs.growing.TicketBodyBody.push.Goals as goal
 
 pub invariant_of-self : goal.invariant_of-self
@@ -17,5 +16,5 @@ returns c =
     let before = c.args.self.now in
     let at = ticket_place before.lines.place before.stands in
     MatchResult-weaker c.push.result c.push.ensures.added
-    (λ _ e. ticket_grown _ c.args.line.now (ticket_body before) at (rows c.push.new.self) e)
-    (λ f q. (ticket_refused _ c.args.line.now (ticket_body before) at f q.0, ticket_back before c.push.new.self _ _ q.1))
+    (λ _ e. longer_at _ _ _ (rows before.lines) c.args.line.now _ at e)
+    (λ f q. (longer_at _ _ _ (rows before.lines) c.args.line.now _ at q.0, ticket_back before c.push.new.self _ _ q.1))
