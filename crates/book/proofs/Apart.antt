@@ -5,7 +5,7 @@ use Rattle.narrow.proofs.Rows.{contradiction}
 use Rattle.book.specs.Keys.{KeyView, secret_in, taken, apart}
 
 -- a number that no key has: neither the first nor one behind it
-free_parts : (j : KeyView) (ks : List KeyView) (n : ℕ) → taken (j ∷ ks) n ≡ false → (eqb j.0 n ≡ false) × (taken ks n ≡ false)
+pub free_parts : (j : KeyView) (ks : List KeyView) (n : ℕ) → taken (j ∷ ks) n ≡ false → (eqb j.0 n ≡ false) × (taken ks n ≡ false)
 unfolding secret_in
 free_parts j ks n = by (eqb j.0 n)
   where
@@ -21,7 +21,7 @@ free_inside : (acc : List KeyView) (k : KeyView) (ks : List KeyView) (n : ℕ) �
 free_inside [] k ks n e = (free_parts k ks n e).0
 free_inside (j ∷ acc) k ks n e = free_inside acc k ks n (free_parts j (acc ++ k ∷ ks) n e).1
 
-other_way : (m n : ℕ) → eqb m n ≡ false → eqb n m ≡ false
+pub other_way : (m n : ℕ) → eqb m n ≡ false → eqb n m ≡ false
 other_way m n e = ne_eqb n m (λ q. eqb-false m n e (sym q))
 
 -- one key more, whose number is free

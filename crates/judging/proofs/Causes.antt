@@ -2,7 +2,7 @@
 use Rattle.std.proofs.Common.{◌≡◌, ℕ, zero, suc, ◌<◌, Bool, true, false, cond, not, ◌&&◌, eqb, ltb, List, [], ◌∷◌, length, get_or, Some, None, Ok, Err, Decides, Option, sym, refl, ap, ◌∙◌, subst, arith, MatchOption}
 use mathlib.Core.List.{Memᴰ}
 use Rattle.std.specs.List.{position, position_or_len}
-use Rattle.std.proofs.lemmas.Bool.{and_parts, and_from, eqb-true, eq-eqb, not-true, not_from_false, false_from_ne_true, true_from_ne_false, both_ways, cond-true, cond-false, ltb-true, ltb-false, lt-ltb, le-ltb}
+use Rattle.std.proofs.lemmas.Bool.{and_parts, and_from, eqb-true, eq-eqb, not-true, not_from_false, false_from_ne_true, true_from_ne_false, iff_false, cond-true, cond-false, ltb-true, ltb-false, lt-ltb, le-ltb}
 use Rattle.std.proofs.lemmas.List.Sums.{position_or_len_is, fails_before_first, passes_at_first}
 use Rattle.narrow.specs.Rows.{any, all}
 use Rattle.narrow.specs.Term.{Bytes}
@@ -82,22 +82,19 @@ module _ (v : Meaning) (ys : List Yes) (l : Bytes) where
 
 -- ---- the first place of a test is the least place of what it decides
 
+pub decides_not : (b : Bool) {P : Type 0} → Decides b P → (P → ⊥) → b ≡ false
+decides_not b d ne = false_from_ne_true b (λ e. ne (d.0 e))
+
 module _ (f : Bytes → Bool) (P : Bytes → Type 0) (d : (l : Bytes) → Decides (f l) (P l)) (ls : List Bytes) where
-  no_pass : (l : Bytes) → (P l → ⊥) → f l ≡ false
-  no_pass l ne = false_from_ne_true (f l) (λ e. ne ((d l).0 e))
-
-  pass_not : (l : Bytes) → f l ≡ false → P l → ⊥
-  pass_not l e h = both_ways (f l) e ((d l).1 h)
-
   place_from : (i : ℕ) → Least P ls i → position f ls ≡ Some i
   place_from i least =
       let here : position_or_len f ls ≡ i =
-      position_or_len_is f ls i [] (omega (arith, least.within)) (λ j h. no_pass (get_or ls j []) (least.before j h)) (λ h. (d (get_or ls i [])).1 least.here) in
+      position_or_len_is f ls i [] (omega (arith, least.within)) (λ j h. decides_not _ (d (get_or ls j [])) (least.before j h)) (λ h. (d (get_or ls i [])).1 least.here) in
       rw here (cond-true (ltb i (length ls)) _ _ (lt-ltb i (length ls) least.within))
 
   nowhere_from : Nowhere P ls → position f ls ≡ None
   nowhere_from none =
-      let all : position_or_len f ls ≡ length ls = position_or_len_is f ls (length ls) [] (omega arith) (λ j h. no_pass (get_or ls j []) (none j h)) (λ h. absurd (omega arith)) in
+      let all : position_or_len f ls ≡ length ls = position_or_len_is f ls (length ls) [] (omega arith) (λ j h. decides_not _ (d (get_or ls j [])) (none j h)) (λ h. absurd (omega arith)) in
       rw all (cond-false (ltb (length ls) (length ls)) _ _ (le-ltb (length ls) (length ls) (omega arith)))
 
   -- the search tells, for every row
@@ -107,8 +104,8 @@ module _ (f : Bytes → Bool) (P : Bytes → Type 0) (d : (l : Bytes) → Decide
       by : (b : Bool) → ltb (position_or_len f ls) (length ls) ≡ b → MatchOption (cond b (Some (position_or_len f ls)) None) (Nowhere P ls) (Least P ls)
       by true e =
           let within = ltb-true (position_or_len f ls) (length ls) e in
-          record { within = within; here = (d (get_or ls (position_or_len f ls) [])).0 (passes_at_first f ls [] within); before = λ j h. pass_not (get_or ls j []) (fails_before_first f ls j [] h) }
-      by false e = λ i h. let past : i < position_or_len f ls = omega (arith, ltb-false (position_or_len f ls) (length ls) e) in pass_not (get_or ls i []) (fails_before_first f ls i [] past)
+          record { within = within; here = (d (get_or ls (position_or_len f ls) [])).0 (passes_at_first f ls [] within); before = λ j h. iff_false (d (get_or ls j [])) (fails_before_first f ls j [] h) }
+      by false e = λ i h. let past : i < position_or_len f ls = omega (arith, ltb-false (position_or_len f ls) (length ls) e) in iff_false (d (get_or ls i [])) (fails_before_first f ls i [] past)
 
 -- ---- the whole
 

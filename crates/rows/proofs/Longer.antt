@@ -21,7 +21,7 @@ pub record Longer (place : Place) (ls : List Bytes) (l : Bytes) (bytes : Bytes) 
   pub marked : (i : ℕ) → i ≤ count → get_or marks i 0 ≡ length (wire (take i (unwired count bytes)))
   pub legible : all (stands place) (unwired count bytes) ≡ true
 
-all_push : (place : Place) (ls : List Bytes) (l : Bytes) → all (stands place) ls ≡ true → stands place l ≡ true → all (stands place) (ls ++ l ∷ []) ≡ true
+pub all_push : (place : Place) (ls : List Bytes) (l : Bytes) → all (stands place) ls ≡ true → stands place l ≡ true → all (stands place) (ls ++ l ∷ []) ≡ true
 all_push place ls l h e =
     all_from (stands place) (ls ++ l ∷ [])
     (λ x m. ⊎_elim (λ i. all_at (stands place) i h) (λ i. ap (stands place) (Memᴰ.eq_of_singleton i) ∙ e) (Memᴰ.append_cases ls m))

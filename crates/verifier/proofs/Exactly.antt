@@ -1,13 +1,13 @@
 -- An answer is given exactly if its condition holds. Assumes nothing.
 use Rattle.std.proofs.Common.{◌≡◌, Bool, true, false, ◌&&◌, eqb, ltb, leb, List, length, is_some, Ok, Err, Decides, Result, sym, refl, ap, ◌∙◌, subst}
 use mathlib.Core.List.{Memᴰ}
-use Rattle.std.proofs.lemmas.Bool.{and_parts, and_from, cond-true, cond-false}
+use Rattle.std.proofs.lemmas.Bool.{and_parts, and_from, iff_false, cond-true, cond-false}
 use Rattle.narrow.specs.Rows.{all, any}
 use Rattle.narrow.specs.Term.{Bytes}
 use Rattle.narrow.specs.Ticket as model
 use Rattle.narrow.specs.TermBytes.{bytes_of}
 use Rattle.narrow.specs.Policy.{most_lines, today, lets, all_met, serves}
-use Rattle.narrow.proofs.Rows.{contradiction, all_at, all_from}
+use Rattle.narrow.proofs.Rows.{all_at, all_from}
 use Rattle.narrow.proofs.Can.{same_bytes_lem}
 use Rattle.lines.specs.declared.Fault.{Fault}
 use Rattle.lines.specs.declared.Place.TheVariants as place
@@ -18,7 +18,7 @@ use Rattle.tickets.specs.Made.{Secrets, by_hmac}
 use Rattle.codec.specs.Format.{fixed, row, wish, behind, both, only, named, counted}
 use Rattle.judging.specs.Judged.{Judgement, judged}
 use Rattle.judging.specs.Laws.{Cause}
-use Rattle.judging.proofs.Causes.{judged_right}
+use Rattle.judging.proofs.Causes.{decides_not, judged_right}
 use Rattle.showing.specs.Showing.{ShownView, shown, shown_of}
 use Rattle.showing.proofs.Shows.{shown_exact}
 use Rattle.verifier.specs.declared.Refusal.TheVariants.{Unread, WrongMac, UnknownKey, WrongTie, Unmet}
@@ -28,13 +28,6 @@ use Rattle.verifier.specs.Laws.{MacRight, AllKnown, AllTied, AllRight, ThroughEx
 -- a test of a whole row decides what it decides of each
 all_decides : {A : Type 0} (f : A → Bool) (P : A → Type 0) → ((x : A) → Decides (f x) (P x)) → (xs : List A) → Decides (all f xs) ((x : A) → Memᴰ x xs → P x)
 all_decides f P d xs = (λ e x i. (d x).0 (all_at f i e), λ h. all_from f xs (λ x i. (d x).1 (h x i)))
-
-decides_not : (b : Bool) {P : Type 0} → Decides b P → (P → ⊥) → b ≡ false
-decides_not true d ne = absurd (ne (d.0 refl))
-decides_not false d ne = refl
-
-decides_fails : (b : Bool) {P : Type 0} → Decides b P → b ≡ false → P → ⊥
-decides_fails b d e p = let z : true ≡ false = sym (d.1 p) ∙ e in contradiction (cc)
 
 module _ (s : Secrets) (v : ShownView) where
   pub mac_decides : Decides (right_mac s v.ticket) (MacRight s v)
@@ -128,15 +121,15 @@ module _ (s : Secrets) (bs : Bytes) where
 
       tied : (v : ShownView) → shown_of bs ≡ Ok v → MacRight s v → AllKnown s v → (b : Bool) → right_ties s v.ticket.of v.yeses ≡ b → Why s bs (verdict s bs)
       tied v e m k true h = lines v e (record { mac = m; known = k; ties = (ties_decide s v).0 h })
-      tied v e m k false h = let ne = decides_fails _ (ties_decide s v) h in subst (Why s bs) (sym (wrong_tie v e m k ne)) (v, e, m, k, ne)
+      tied v e m k false h = let ne = iff_false (ties_decide s v) h in subst (Why s bs) (sym (wrong_tie v e m k ne)) (v, e, m, k, ne)
 
       known : (v : ShownView) → shown_of bs ≡ Ok v → MacRight s v → (b : Bool) → known_keys s v.yeses ≡ b → Why s bs (verdict s bs)
       known v e m true h = tied v e m ((known_decides s v).0 h) (right_ties s v.ticket.of v.yeses) refl
-      known v e m false h = let ne = decides_fails _ (known_decides s v) h in subst (Why s bs) (sym (unknown_key v e m ne)) (v, e, m, ne)
+      known v e m false h = let ne = iff_false (known_decides s v) h in subst (Why s bs) (sym (unknown_key v e m ne)) (v, e, m, ne)
 
       maced : (v : ShownView) → shown_of bs ≡ Ok v → (b : Bool) → right_mac s v.ticket ≡ b → Why s bs (verdict s bs)
       maced v e true h = known v e ((mac_decides s v).0 h) (known_keys s v.yeses) refl
-      maced v e false h = let ne = decides_fails _ (mac_decides s v) h in subst (Why s bs) (sym (wrong_mac v e ne)) (v, e, ne)
+      maced v e false h = let ne = iff_false (mac_decides s v) h in subst (Why s bs) (sym (wrong_mac v e ne)) (v, e, ne)
 
       read : (r : Result ShownView Fault) → shown_of bs ≡ r → Why s bs (verdict s bs)
       read (Ok v) e = maced v e (right_mac s v.ticket) refl

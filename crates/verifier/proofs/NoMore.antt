@@ -1,5 +1,5 @@
 -- A line more lets no more through, on bytes. Assumes nothing.
-use Rattle.std.proofs.Common.{◌≡◌, ℕ, Bool, true, ◌&&◌, eqb, ltb, leb, List, [], ◌∷◌, ◌++◌, map, length, is_some, Ok, sym, refl, ap, ◌∙◌, subst, arith}
+use Rattle.std.proofs.Common.{◌≡◌, ℕ, true, ◌&&◌, eqb, ltb, leb, List, [], ◌∷◌, ◌++◌, map, length, is_some, Ok, sym, refl, ap, ◌∙◌, subst, arith}
 use Rattle.std.proofs.lemmas.List.{length-map, length_push}
 use Rattle.std.proofs.lemmas.Bool.{and_parts, and_from, eq-eqb, le-leb, lt-ltb}
 use Rattle.narrow.specs.Rows.{all}
@@ -15,6 +15,7 @@ use Rattle.lines.specs.Meaning.{says}
 use Rattle.hmac.specs.Hmac.{hmac_of}
 use Rattle.hmac.proofs.Laws.{hmac_length}
 use Rattle.rows.specs.Standing.{stands}
+use Rattle.rows.proofs.Longer.{all_push}
 use Rattle.tickets.specs.Making as making
 use Rattle.tickets.specs.Making.{Ticket, Yes, Tied, line_added}
 use Rattle.tickets.specs.Made.{by_hmac}
@@ -37,11 +38,6 @@ ties_fit t u (y ∷ ys) e =
     and_from (tied.fits (making.tied u y)) (all tied.fits (map (making.tied u) ys))
     (and_from _ (eqb (length (hmac_of u.mac (tie_message y.mac))) 32) body (eq-eqb _ 32 (hmac_length u.mac (tie_message y.mac)))) (ties_fit t u ys below)
 
-all_push : (p : Bytes → Bool) (ls : List Bytes) (l : Bytes) → all p ls ≡ true → p l ≡ true → all p (ls ++ l ∷ []) ≡ true
-unfolding all
-all_push p [] l h e = and_from (p l) true e refl
-all_push p (x ∷ xs) l h e = let (here, below) = and_parts (p x) (all p xs) h in and_from (p x) (all p (xs ++ l ∷ [])) here (all_push p xs l below e)
-
 -- with a line added it still fits
 longer_fits : (w : WishView) (t u : Ticket) (l : Bytes) (ys : List Yes) → line_added t l ≡ Ok u → shown.fits (showing w t ys) ≡ true → shown.fits (showing w u ys) ≡ true
 unfolding fixed row wish behind both only named counted
@@ -63,7 +59,7 @@ longer_fits w t u l ys e h =
     (and_from _ _
     (and_from _ _ (ap (λ (v : model.Ticket). eqb (length v.number) 4) longer ∙ front)
     (and_from _ _ (lt-ltb 0 (length u.of.lines) (omega (arith, count, length_push t.of.lines l)))
-    (and_from _ _ (le-leb (length u.of.lines) most_lines (omega (arith, count, length_push t.of.lines l))) (ap (all (stands place.Ticket)) lines ∙ all_push (stands place.Ticket) t.of.lines l stood good))))
+    (and_from _ _ (le-leb (length u.of.lines) most_lines (omega (arith, count, length_push t.of.lines l))) (ap (all (stands place.Ticket)) lines ∙ all_push place.Ticket t.of.lines l stood good))))
     (eq-eqb (length u.mac) 32 (ap length maced ∙ hmac_length t.mac l)))
     (and_from _ _ (ap (λ (n : ℕ). leb n most_yeses) (length-map ys (making.tied u) ∙ sym (length-map ys (making.tied t))) ∙ many) (ties_fit t u ys fit))
 
