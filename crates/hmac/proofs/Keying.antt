@@ -8,8 +8,8 @@ use Rattle.sha256.specs.Sha256.{word, words, compressed, absorbed, eight, paddin
 use Rattle.hmac.specs.Hmac.{mixed, hmac_of}
 use Rattle.sha256.specs.Blocks.{remaining, finished}
 use Rattle.hmac.specs.Midstates.{midstate, mac_from, Midstates}
-use Rattle.sha256.proofs.Lists.{eight_of, eight_is}
-use Rattle.sha256.proofs.Absorbing.{words_length, absorbed_back}
+use Rattle.sha256.proofs.Lists.{eight_is}
+use Rattle.sha256.proofs.Absorbing.{absorbed_back}
 use Rattle.sha256.proofs.Bytes.{words_back, words_bytes, bytes_length}
 use Rattle.sha256.proofs.Padding.{absorbed_one}
 
@@ -63,12 +63,9 @@ key_words c key n small l =
     let e : map (λ x. bit_xor x (c * 0x01010101)) (words 8 key) ≡ words 8 x = cc in
     rw (mixed_is c key n, words_back 8 8 x (replicate 32 c) lx, pad_words c) (ap (λ z. z ++ replicate 8 (c * 0x01010101)) e)
 
-pub key_block_is : (kw key : List ℕ) (pad c : ℕ) → kw ≡ words 8 key → pad ≡ c * 0x01010101 → length key ≡ 32 → ((j : ℕ) → get_or key j 0 < 256) → c < 256 → map (λ x. bit_xor x pad) (eight_of kw) ++ replicate 8 pad ≡ words 16 (mixed c key)
-key_block_is kw key pad c e f n small l =
-    let same : eight_of kw ≡ words 8 key = eight_is kw (ap length e ∙ words_length 8 key) ∙ e in
-    ap (λ z. map (λ x. bit_xor x pad) z ++ replicate 8 pad) same
-    ∙ ap (λ p. map (λ x. bit_xor x p) (words 8 key) ++ replicate 8 p) f
-    ∙ key_words c key n small l
+pub key_midstate : (c pad : ℕ) (key kw : List ℕ) → length key ≡ 32 → ((j : ℕ) → get_or key j 0 < 256) → c < 256 → pad ≡ c * 0x01010101 → kw ≡ words 8 key → compressed initial (map (λ x. bit_xor x pad) kw ++ replicate 8 pad) ≡ midstate c key
+unfolding midstate
+key_midstate c pad key kw n small l ep ek = rw (ep, ek, key_words c key n small l)
 
 -- ---- the outer hash
 -- the padding after a key's block and 32 bytes
@@ -80,15 +77,14 @@ words_96 : words 8 (padding 96) ≡ 0x80000000 ∷ 0 ∷ 0 ∷ 0 ∷ 0 ∷ 0 ∷
 unfolding words word padding eight
 words_96 = refl
 
-pub outer_block : (v h : List ℕ) → length v ≡ 8 → ((i : ℕ) → get_or v i 0 < 2 ^ 32) → finished 64 (bytes v) h ≡ compressed h (eight_of v ++ 0x80000000 ∷ 0 ∷ 0 ∷ 0 ∷ 0 ∷ 0 ∷ 0 ∷ 768 ∷ [])
+pub outer_block_is : (v h : List ℕ) → length v ≡ 8 → ((i : ℕ) → get_or v i 0 < 2 ^ 32) → finished 64 (bytes v) h ≡ compressed h (v ++ 0x80000000 ∷ 0 ∷ 0 ∷ 0 ∷ 0 ∷ 0 ∷ 0 ∷ 768 ∷ [])
 unfolding finished remaining
-outer_block v h n small =
+outer_block_is v h n small =
     let lb : length (bytes v) ≡ 32 = rw (bytes_length, n) refl in
     let ll : length (bytes v ++ padding 96) ≡ 64 = rw length-append (rw lb (ap (λ k. 32 + k) padding_96)) in
     let w : words 16 (bytes v ++ padding 96) ≡ words 8 (bytes v) ++ words 8 (padding 96) = words_back 8 8 (bytes v) (padding 96) lb in
-    let b = words_bytes v n small in
-    let p = words_96 in
-    rw (lb, ll) (rw (absorbed_one (bytes v ++ padding 96) h ll, w, b, p) refl)
+    let b : words 8 (bytes v) ≡ v = words_bytes v n small ∙ eight_is v n in
+    rw (lb, ll) (rw (absorbed_one (bytes v ++ padding 96) h ll, w, b, words_96) refl)
 
 -- ---- HMAC by its midstates
 -- a hash from its start is one with the first block in the hash value already

@@ -7,11 +7,13 @@ ghost use Rattle.hmac.specs.Hmac.{hmac_of};
 ghost use Rattle.hmac.specs.Keyed.{Keyed};
 ghost use Rattle.hmac.specs.Midstates.{mac_from};
 
-mod midstates;
+pub mod midstates;
 
+use midstates::{INNER, OUTER, midstate};
+use sha256::words::from_bytes;
 use std::fmt;
 
-// A MAC, which is the key of further MACs too. `Debug` shows none of its bytes.
+// A MAC, which is the key of further MACs too.
 #[derive(Clone, Copy)]
 pub struct Mac {
     bytes: [u8; 32],
@@ -48,18 +50,20 @@ impl Mac {
         self.mac(&message)
     }
 
-    // Whether the two are equal. It reads all 32 bytes of both, whatever they are, so that its time tells nothing of where they differ.
+    // Whether the two are equal. It is no derived `==`: it reads all 32 bytes of both, whatever they are, so that its time tells
+    // nothing of where they differ.
     pub fn same(self, other: Mac) -> bool
         ensures { Decides result (self.bytes ≡ other.bytes) }
     {
-        let mut differing = 0;
-        for i in 0..32 {
-            differing |= self.bytes[i] ^ other.bytes[i];
-        }
-        differing == 0
+        self.bytes
+            .iter()
+            .zip(&other.bytes)
+            .fold(0, |differing, (a, b)| differing | (*a ^ *b))
+            == 0
     }
 }
 
+// By hand, as a derive would print the bytes, which are secret.
 impl fmt::Debug for Mac {
     fn fmt<W: fmt::Write>(&self, f: &mut fmt::Formatter<W>) -> fmt::Result {
         f.write_str("Mac(..)")
@@ -77,9 +81,9 @@ impl Key {
     pub fn new(key: Mac) -> Key
         ensures { Keyed key.bytes result }
     {
-        let Mac { bytes } = key;
-        let inner = midstates::inner_midstate(bytes);
-        let outer = midstates::outer_midstate(bytes);
+        let words = from_bytes(key.bytes);
+        let inner = midstate(words, INNER);
+        let outer = midstate(words, OUTER);
         Key { inner, outer }
     }
 
@@ -94,6 +98,7 @@ impl Key {
     }
 }
 
+// By hand, for the same reason.
 impl fmt::Debug for Key {
     fn fmt<W: fmt::Write>(&self, f: &mut fmt::Formatter<W>) -> fmt::Result {
         f.write_str("Key(..)")

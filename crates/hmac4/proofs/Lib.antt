@@ -1,3 +1,3 @@
 pub mod Arrays
+pub mod Fours
 pub mod Macs
-pub mod Vectors

@@ -1,7 +1,14 @@
--- Vectors of four lanes.
+-- Keys as words, and a lane of an array of vectors.
 -- Assumes nothing.
-use Rattle.std.specs.Prelude.{◌≡◌, ℕ, ◌<◌, List, length, slice_index}
+use Rattle.std.specs.Prelude.{◌≡◌, ℕ, ◌<◌, List, map, length, slice_index}
+use Rattle.sha256.specs.Sha256.{words}
 
--- a vector of four lanes that holds f l in lane l
-abbrev pub Lanes : List ℕ → (ℕ → ℕ) → Type 0
-Lanes v f = (length v ≡ 4) × ((l : ℕ) → l < 4 → slice_index v l ≡ f l)
+-- the words that lane l holds
+abbrev pub lane : ℕ → List (List ℕ) → List ℕ
+lane l vectors = map (λ v. slice_index v l) vectors
+
+-- the words of a key of 32 bytes
+pub record IsKeyOf (key kw : List ℕ) : Type 0 where
+  pub long : length key ≡ 32
+  pub below : (i : ℕ) → slice_index key i < 256
+  pub words_are : kw ≡ words 8 key

@@ -38,14 +38,18 @@ pub extern "C" fn hmac_c_mac(key: &[u8], message: &[u8], out: &mut [u8]) -> bool
     true
 }
 
-// The key at place i of a row of keys.
-fn key_at(keys: &[u8], i: usize) -> Mac
+// A message under the key at place i of a row of keys.
+fn request<'a>(keys: &[u8], i: usize, message: &'a [u8]) -> Request<'a>
     requires { 32 * i + 32 ≤ length keys.now }
-    ensures { result.bytes ≡ take 32 (drop (32 * i) keys.now) }
+    ensures key { result.key.bytes ≡ take 32 (drop (32 * i) keys.now) }
+    ensures message { result.message.now ≡ message.now }
 {
     let mut bytes = [0; 32];
     bytes.copy_from_slice(&keys[32 * i..32 * i + 32]);
-    Mac::new(bytes)
+    Request {
+        key: Mac::new(bytes),
+        message,
+    }
 }
 
 // The MACs of four messages, one after the other; the four keys and `out` have 128 bytes.
@@ -64,26 +68,12 @@ pub extern "C" fn hmac_c_mac_four(
     if keys.len() != 128 || out.len() != 128 {
         return false;
     }
-    let first = Request {
-        key: key_at(keys, 0),
-        message: a,
-    };
-    let second = Request {
-        key: key_at(keys, 1),
-        message: b,
-    };
-    let third = Request {
-        key: key_at(keys, 2),
-        message: c,
-    };
-    let fourth = Request {
-        key: key_at(keys, 3),
-        message: d,
-    };
-    let (p, q, r, s) = mac_four(first, second, third, fourth);
-    out[0..32].copy_from_slice(&p.bytes());
-    out[32..64].copy_from_slice(&q.bytes());
-    out[64..96].copy_from_slice(&r.bytes());
-    out[96..128].copy_from_slice(&s.bytes());
+    let macs = mac_four([
+        request(keys, 0, a),
+        request(keys, 1, b),
+        request(keys, 2, c),
+        request(keys, 3, d),
+    ]);
+    out.copy_from_slice(macs.map(Mac::bytes).as_flattened());
     true
 }

@@ -159,23 +159,8 @@ fn fours(rt: HostRuntime) {
     let m = message();
     let key = counted_key();
     for n in 0..60 {
-        let a = Request {
-            key,
-            message: &m[0..n],
-        };
-        let b = Request {
-            key,
-            message: &m[0..59 - n],
-        };
-        let c = Request {
-            key,
-            message: &m[0..n / 2],
-        };
-        let d = Request {
-            key,
-            message: &m[0..5],
-        };
-        let (w, x, y, z) = mac_four(a, b, c, d);
+        let messages = [&m[..n], &m[..59 - n], &m[..n / 2], &m[..5]];
+        let [w, x, y, z] = mac_four(messages.map(|message| Request { key, message }));
         assert_eq!(rt; folded(w.bytes()), MACS[n]);
         assert_eq!(rt; folded(x.bytes()), MACS[59 - n]);
         assert_eq!(rt; folded(y.bytes()), MACS[n / 2]);

@@ -1,9 +1,12 @@
 -- The hash value over blocks: where a message may be cut, and its padding.
 -- Assumes nothing.
-use Rattle.std.proofs.Common.{◌≡◌, ℕ, zero, suc, ◌+◌, ◌-◌, ◌*◌, ◌/◌, ◌%◌, ◌^◌, ◌<◌, ◌≤◌, List, [], ◌∷◌, ◌++◌, length, get_or, take, drop, set, replicate, refl, ap, ◌∙◌, suc-add, zero-add, add-one, arith}
+use Rattle.std.proofs.Common.{inl, inr, ◌≡◌, ℕ, zero, suc, ◌+◌, ◌-◌, ◌*◌, ◌/◌, ◌%◌, ◌^◌, ◌<◌, ◌≤◌, List, [], ◌∷◌, ◌++◌, length, get_or, take, drop, set, replicate, sym, refl, ap, ◌∙◌, suc-add, zero-add, add-one, arith}
 use lib.Bits.{bit_and}
+use Rattle.std.proofs.lemmas.Bool.{cases_lt}
 use Rattle.std.proofs.lemmas.Nat.{and_mask, field_of, shr-shr}
-use Rattle.std.proofs.lemmas.List.{length-append, length-take-le, length-drop, get_or_append_left, get_or-append_right, take-append-le, drop-append-le, drop_at, drop-drop, set_at, drop-replicate, take-append-drop}
+use Rattle.std.proofs.lemmas.List.{length-append, length-take-le, length-drop, get_or_append_left, get_or-append_right, take-append-le, drop-append-le, drop_at, drop-drop, set_at, drop-replicate, take-append-drop, take_all}
+use Rattle.std.specs.List.{fold}
+use Rattle.std.specs.Simd.{first_chunks}
 use Rattle.sha256.specs.Sha256.{word, words, compressed, absorbed, eight}
 
 -- ---- words
@@ -11,6 +14,18 @@ pub words_length : (n : ℕ) (b : List ℕ) → length (words n b) ≡ n
 unfolding words
 words_length zero b = refl
 words_length (suc n) b = simp length-append (omega (arith, words_length n b))
+
+pub words_at : (n i : ℕ) (b : List ℕ) → i < n → get_or (words n b) i 0 ≡ word i b
+unfolding words
+words_at zero i b h = absurd (omega arith)
+words_at (suc n) i b h =
+    elim (cases_lt i n) as (λ _. get_or (words n b ++ word n b ∷ []) i 0 ≡ word i b) [
+      | inl l ↦ get_or_append_left (words n b) (word n b ∷ []) 0 i (omega (arith, words_length n b)) ∙ words_at n i b l
+      | inr k ↦
+          let e : i ≡ n = omega arith in
+          let z : n - n ≡ 0 = omega arith in
+          rw (e, get_or-append_right (words n b) (word n b ∷ []) n n 0 (words_length n b) (omega arith), z)
+    ]
 
 -- a word depends on its four bytes alone
 word_front : (i : ℕ) (x y : List ℕ) → 4 * i + 4 ≤ length x → word i (x ++ y) ≡ word i x
@@ -77,11 +92,23 @@ absorbed_back (suc k) j x y h l =
     rw (e, ← drop-drop (64 * k) (64 * j) (x ++ y), drop_at x y (64 * j) l) refl in
     rw suc-add (cc)
 
+-- block by block, as the code takes them
+pub absorbed_chunks : (n : ℕ) (message h : List ℕ) → 64 * n ≤ length message → fold (λ h b. compressed h (words 16 b)) h (first_chunks 64 n message) ≡ absorbed n message h
+unfolding absorbed
+absorbed_chunks zero message h l = refl
+absorbed_chunks (suc n) message h l =
+    let x : List ℕ = take 64 message in
+    let y : List ℕ = drop 64 message in
+    let nx : length x ≡ 64 = length-take-le 64 message (omega arith) in
+    let more = absorbed_chunks n y (compressed h (words 16 x)) (simp length-drop (omega arith)) in
+    let back : absorbed (n + 1) (x ++ y) h ≡ absorbed n y (absorbed 1 x h) = absorbed_back n 1 x y h nx in
+    let one : absorbed 1 x h ≡ compressed h (words 16 x) = ap (λ z. compressed h (words 16 z)) (take_all 64 x (omega arith)) in
+    more ∙ sym (rw (add-one, take-append-drop, one) at back)
+
 -- ---- the end of a message
-pub opened_is : (rest x : List ℕ) → x ≡ rest → length rest < 64 → set (x ++ drop (length rest - 0) (replicate 64 0)) (length rest) 128 ≡ rest ++ 128 ∷ replicate (63 - length rest) 0
+pub opened_is : (rest x : List ℕ) → x ≡ rest → length rest < 64 → set (x ++ drop (length rest) (replicate 64 0)) (length rest) 128 ≡ rest ++ 128 ∷ replicate (63 - length rest) 0
 opened_is rest x e l =
-    let n : length rest ≡ length rest - 0 = omega arith in
-    let k : 64 - (length rest - 0) ≡ suc (63 - length rest) = omega arith in
+    let k : 64 - length rest ≡ suc (63 - length rest) = omega arith in
     rw (e, drop-replicate, k) (set_at rest 0 (replicate (63 - length rest) 0) 128 (length rest) refl)
 
 -- the low byte of a number, of which only low bits are left

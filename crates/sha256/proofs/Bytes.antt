@@ -2,6 +2,7 @@
 -- Assumes nothing.
 use Rattle.std.proofs.Common.{◌≡◌, ℕ, zero, suc, ◌+◌, ◌-◌, ◌*◌, ◌/◌, ◌%◌, ◌^◌, ◌<◌, List, [], ◌∷◌, ◌++◌, length, get_or, sym, refl, ap, ◌∙◌, add-zero, suc-add, zero-add, arith}
 use Rattle.std.proofs.lemmas.List.{append-nil, append_assoc, get_or-append_right}
+use Rattle.std.specs.List.{flat_map}
 use Rattle.sha256.specs.Sha256.{word, words, bytes}
 use Rattle.sha256.proofs.Lists.{eight_of, eight_is}
 use Rattle.sha256.proofs.Absorbing.{words_front, from_bytes}
@@ -56,3 +57,13 @@ pub bytes_push : (xs : List ℕ) (x : ℕ) → bytes (xs ++ x ∷ []) ≡ bytes 
 unfolding bytes
 bytes_push [] x = refl
 bytes_push (y ∷ xs) x = ap (λ z. (y / 2 ^ 24 % 256) ∷ (y / 2 ^ 16 % 256) ∷ (y / 2 ^ 8 % 256) ∷ (y % 256) ∷ z) (bytes_push xs x)
+
+-- the bytes of each word, one after the other
+pub bytes_flat : (ys : List (List ℕ)) (v : List ℕ) → length ys ≡ length v → ((i : ℕ) → i < length v → get_or ys i [] ≡ bytes (get_or v i 0 ∷ [])) → flat_map (λ x. x) ys ≡ bytes v
+unfolding bytes
+bytes_flat [] [] n each = refl
+bytes_flat [] (x ∷ v) n each = cc
+bytes_flat (y ∷ ys) [] n each = cc
+bytes_flat (y ∷ ys) (x ∷ v) n each =
+    let more = bytes_flat ys v (omega arith) (λ i h. each (suc i) (omega arith)) in
+    rw (each 0 (omega arith), more) refl

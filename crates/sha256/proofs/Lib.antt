@@ -1,5 +1,7 @@
 pub mod Absorbing
 pub mod Bytes
+pub mod FromFn
+pub mod Lanes
 pub mod Laws
 pub mod Lists
 pub mod Padding

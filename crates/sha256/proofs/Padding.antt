@@ -1,7 +1,7 @@
 -- The end of a message: its last whole block, its padding, and the one or two blocks that these make.
 -- Assumes nothing.
 use Rattle.std.proofs.Common.{◌≡◌, ℕ, ◌+◌, ◌-◌, ◌*◌, ◌/◌, ◌%◌, ◌^◌, ◌<◌, ◌≤◌, List, ◌∷◌, ◌++◌, length, take, drop, replicate, sym, refl, ap, ◌∙◌, arith}
-use Rattle.std.proofs.lemmas.List.{append_assoc, length-append, length-take-le, length-drop, length-replicate, take_all, take_at, replicate-append-replicate, take-append-drop, take_rest}
+use Rattle.std.proofs.lemmas.List.{append_assoc, length-append, length-take-le, length-drop, length-replicate, take_all, take_at, replicate-append-replicate, take-append-drop}
 use Rattle.sha256.specs.Sha256.{words, compressed, absorbed, eight, padding}
 use Rattle.sha256.specs.Blocks.{remaining, finished}
 use Rattle.sha256.proofs.Absorbing.{absorbed_front, absorbed_back, eight_mod}
@@ -48,10 +48,10 @@ absorbed_one block h n = ap (λ x. compressed h (words 16 x)) (take_all 64 block
 
 -- the rest of a message past its whole blocks
 abbrev pub rest_of : List ℕ → List ℕ
-rest_of m = take (length m - length m / 64 * 64) (drop (length m / 64 * 64) m)
+rest_of m = drop (length m / 64 * 64) m
 
 rest_length : (m : List ℕ) → length (rest_of m) ≡ length m % 64
-rest_length m = rw take_rest (simp length-drop (omega arith))
+rest_length m = simp length-drop (omega arith)
 
 -- the whole blocks first, then k more
 finished_cut : (before : ℕ) (x y h : List ℕ) (q k : ℕ) → length x ≡ 64 * q → length (y ++ padding (before + length (x ++ y))) ≡ 64 * k → finished before (x ++ y) h ≡ absorbed k (y ++ padding (before + length (x ++ y))) (absorbed q (x ++ y) h)
@@ -69,8 +69,8 @@ finished_tail before m h k e =
     let x : List ℕ = take (q * 64) m in
     let y : List ℕ = drop (q * 64) m in
     let lx : length x ≡ 64 * q = length-take-le (q * 64) m (omega arith) ∙ omega arith in
-    let ly : length (y ++ padding (before + length (x ++ y))) ≡ 64 * k = rw (take-append-drop (q * 64) m) (rw (take_rest m (q * 64)) at e) in
-    rw (take_rest m (q * 64)) (rw (take-append-drop (q * 64) m) at (finished_cut before x y h q k lx ly))
+    let ly : length (y ++ padding (before + length (x ++ y))) ≡ 64 * k = rw (take-append-drop (q * 64) m) e in
+    rw (take-append-drop (q * 64) m) at (finished_cut before x y h q k lx ly)
 
 pub finish_short : (before : ℕ) (m h : List ℕ) → before % 64 ≡ 0 → length (rest_of m) < 56 → finished before m h ≡ compressed (absorbed (length m / 64) m h) (words 16 (take 56 (open_block (rest_of m)) ++ eight (bits_of (before + length m))))
 finish_short before m h w l =

@@ -5,7 +5,7 @@ use Rattle.std.proofs.lemmas.Simd.{pick_l-range_with_len}
 use Rattle.std.proofs.lemmas.List.{length-append, length-drop, get_or-drop, get_or_append_left, drop-append-le, drop-drop, take_all}
 use Rattle.sha256.specs.Constants.{constants}
 use Rattle.sha256.specs.Sha256.{◌⊞◌, σ₀, σ₁, extended, schedule, round, rounds}
-use Rattle.sha256.specs.Stages.{window, advanced, Underway, Ending}
+use Rattle.sha256.specs.Stages.{window, advanced, Underway}
 
 pub schedule_length : (n : ℕ) (block : List ℕ) → length block ≡ 16 → length (schedule n block) ≡ n + 16
 unfolding schedule extended
@@ -54,31 +54,24 @@ pub rounds_more : (n : ℕ) (w v : List ℕ) → rounds (n + 1) w v ≡ round (g
 unfolding rounds
 rounds_more n w v = rw add-one
 
-pub underway_none : (block h : List ℕ) → length block ≡ 16 → Underway 0 block h h block
+pub underway_none : (block h : List ℕ) → length block ≡ 16 → Underway 0 0 block h h block
 unfolding rounds window schedule
 underway_none block h n = record { sixteen = n; variables = refl; words = refl }
 
-pub underway_more : (t : ℕ) (block h v w r x : List ℕ) → t < 48 → r ≡ round (get_or constants t 0) (get_or w 0 0) v → x ≡ advanced w → Underway t block h v w → Underway (t + 1) block h r x
+pub underway_more : (t j : ℕ) (block h v w r : List ℕ) → t ≤ 48 → j < 16 → r ≡ round (get_or constants (t + j) 0) (get_or w j 0) v → Underway t j block h v w → Underway t (j + 1) block h r w
 unfolding window
-underway_more t block h v w r x l er ex u =
+underway_more t j block h v w r lt lj er u =
     let k : ℕ = 48 - t in
     let e : k + t ≡ 48 = omega arith in
-    let at : get_or (schedule 48 block) t 0 ≡ get_or (schedule t block) t 0 =
-    rw e at (schedule_stays k t block t u.sixteen (omega arith)) in
-    let first : get_or (drop t (schedule t block)) 0 0 ≡ get_or (schedule t block) (t + 0) 0 = get_or-drop t (schedule t block) 0 0 in
-    let z : t + 0 ≡ t = omega arith in
-    let more = rounds_more t (schedule 48 block) h in
-    let on = window_more t block u.sixteen in
-    record { sixteen = u.sixteen; variables = cc; words = cc }
+    let stays : get_or (schedule 48 block) (t + j) 0 ≡ get_or (schedule t block) (t + j) 0 =
+    rw e at (schedule_stays k t block (t + j) u.sixteen (omega arith)) in
+    let word = get_or-drop t (schedule t block) j 0 in
+    let n : t + (j + 1) ≡ t + j + 1 = omega arith in
+    let more = rounds_more (t + j) (schedule 48 block) h in
+    record { sixteen = u.sixteen; variables = cc; words = u.words }
 
--- ---- the last sixteen rounds
-pub ending_none : (block h v w : List ℕ) → Underway 48 block h v w → Ending 0 block h v w
-ending_none block h v w u = record { variables = u.variables; words = u.words }
-
-pub ending_more : (j : ℕ) (block h v w r : List ℕ) → r ≡ round (get_or constants (48 + j) 0) (get_or w j 0) v → Ending j block h v w → Ending (j + 1) block h r w
-unfolding window
-ending_more j block h v w r er u =
-    let at = get_or-drop 48 (schedule 48 block) j 0 in
-    let e : 48 + (j + 1) ≡ 48 + j + 1 = omega arith in
-    let more = rounds_more (48 + j) (schedule 48 block) h in
-    record { variables = cc; words = u.words }
+-- sixteen rounds are done, and the words have moved on by sixteen
+pub underway_next : (t : ℕ) (block h v w x : List ℕ) → x ≡ window (t + 16) block → Underway t 16 block h v w → Underway (t + 16) 0 block h v x
+underway_next t block h v w x e u =
+    let n : t + 16 + 0 ≡ t + 16 = omega arith in
+    record { sixteen = u.sixteen; variables = cc; words = e }

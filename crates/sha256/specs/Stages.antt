@@ -14,13 +14,8 @@ advanced w =
     slice_index w 9 ∷ slice_index w 10 ∷ slice_index w 11 ∷ slice_index w 12 ∷ slice_index w 13 ∷ slice_index w 14 ∷ slice_index w 15 ∷
     (σ₁ (slice_index w 14) ⊞ slice_index_or w 9 0 ⊞ σ₀ (slice_index w 1) ⊞ slice_index_or w 0 0) ∷ []
 
--- the working variables v and the next sixteen words w, after t rounds of the compression of a block into h
-pub record Underway (t : ℕ) (block h v w : List ℕ) : Type 0 where
+-- the working variables v after t + j rounds of the compression of a block into h, and the sixteen words w from index t on
+pub record Underway (t j : ℕ) (block h v w : List ℕ) : Type 0 where
   pub sixteen : length block ≡ 16
-  pub variables : v ≡ rounds t (schedule 48 block) h
+  pub variables : v ≡ rounds (t + j) (schedule 48 block) h
   pub words : w ≡ window t block
-
--- the same in the last sixteen rounds, after 48 + j, which need no further words
-pub record Ending (j : ℕ) (block h v w : List ℕ) : Type 0 where
-  pub variables : v ≡ rounds (48 + j) (schedule 48 block) h
-  pub words : w ≡ window 48 block

@@ -1,12 +1,14 @@
 // Messages as blocks: words, the hash value over whole blocks, and the padding of the last ones.
 ghost use Rattle.std.specs.Prelude.{◌≡◌, ◌+◌, ◌-◌, ◌*◌, ◌/◌, ◌%◌, ◌<◌, ◌≤◌, ◌∷◌, ◌++◌, length, take, replicate};
 ghost use Rattle.sha256.specs.Blocks.{finished};
-ghost use Rattle.sha256.specs.Sha256.{word, words, compressed, absorbed, eight, bytes};
+ghost use Rattle.sha256.specs.Sha256.{word, words, compressed, eight};
+ghost use Rattle.std.specs.List.{fold};
 
 use super::compress::compress;
+use std::array;
 
 // The word at index i, the high byte first.
-pub(crate) fn word(b: &[u8], i: usize) -> u32
+fn word(b: &[u8], i: usize) -> u32
     requires { 4 * i + 4 ≤ length b.now }
     ensures { result ≡ word i b.now }
 {
@@ -14,41 +16,24 @@ pub(crate) fn word(b: &[u8], i: usize) -> u32
     u32::from_be_bytes([b[at], b[at + 1], b[at + 2], b[at + 3]])
 }
 
-// The sixteen words of a block.
-fn words(b: &[u8]) -> [u32; 16]
-    requires { 64 ≤ length b.now }
-    ensures { result ≡ words 16 b.now }
+// The first N words.
+pub(crate) fn words<const N: usize>(b: &[u8]) -> [u32; N]
+    requires { 4 * N ≤ length b.now }
+    ensures { result ≡ words N b.now }
 {
-    [
-        word(b, 0),
-        word(b, 1),
-        word(b, 2),
-        word(b, 3),
-        word(b, 4),
-        word(b, 5),
-        word(b, 6),
-        word(b, 7),
-        word(b, 8),
-        word(b, 9),
-        word(b, 10),
-        word(b, 11),
-        word(b, 12),
-        word(b, 13),
-        word(b, 14),
-        word(b, 15),
-    ]
+    array::from_fn(|i| word(b, i))
 }
 
-// The hash value after the whole blocks of a message.
-fn absorb(h: [u32; 8], message: &[u8]) -> [u32; 8]
-    ensures { result ≡ absorbed (length message.now / 64) message.now h }
+// The hash value after some blocks.
+fn absorb(h: [u32; 8], blocks: &[[u8; 64]]) -> [u32; 8]
+    ensures { result ≡ fold (λ h b. compressed h (words 16 b)) h blocks.now }
 {
-    let mut state = h;
-    for i in 0..message.len() / 64 {
-        let next = compress(state, words(&message[64 * i..64 * i + 64]));
-        state = next;
-    }
-    state
+    blocks.iter().fold(
+        h,
+        |h: [u32; 8], block: &[u8; 64]| -> [u32; 8]
+            ensures { result ≡ compressed h (words 16 block.now) }
+        { compress(h, words(block)) },
+    )
 }
 
 // The words of a last block, of which the last two are the message's length in bits.
@@ -68,7 +53,7 @@ pub(crate) fn opened(rest: &[u8]) -> [u8; 64]
 {
     let mut block = [0; 64];
     let end = rest.len();
-    block[0..end].copy_from_slice(rest);
+    block[..end].copy_from_slice(rest);
     block[end] = 128;
     block
 }
@@ -77,8 +62,8 @@ pub(crate) fn opened(rest: &[u8]) -> [u8; 64]
 pub fn finish(h: [u32; 8], blocks: u64, message: &[u8]) -> [u32; 8]
     ensures { result ≡ finished (64 * blocks) message.now h }
 {
-    let h = absorb(h, message);
-    let rest = &message[message.len() / 64 * 64..];
+    let (whole, rest) = message.as_chunks::<64>();
+    let h = absorb(h, whole);
     let bytes = blocks.wrapping_mul(64).wrapping_add(message.len() as u64);
     let bits = bytes.wrapping_mul(8);
     let block = opened(rest);

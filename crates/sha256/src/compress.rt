@@ -1,64 +1,75 @@
-// The compression of SHA-256 (FIPS 180-4, section 6.2.2), with the message schedule fused with the rounds.
-ghost use Rattle.std.specs.Prelude.{◌≡◌, ℕ, ◌+◌, ◌<◌, ◌≤◌, List};
+// The compression of SHA-256 (FIPS 180-4, section 6.2.2), for every kind of word: in each lane it is that of one block.
+// Rounds and schedule go on by sixteen, and are written out four by four: in a loop the variables would change places in each
+// turn, which takes a tenth to a fifth of the speed.
+ghost use Rattle.std.specs.Prelude.{◌≡◌, ℕ, ◌+◌, ◌<◌, ◌≤◌, List, map, length};
 ghost use Rattle.sha256.specs.Sha256.{◌⊞◌, Ch, Maj, Σ₀, Σ₁, σ₀, σ₁, round, compressed};
-ghost use Rattle.sha256.specs.Stages.{advanced, Underway, Ending};
+ghost use Rattle.sha256.specs.Stages.{advanced, window, Underway};
 ghost use Rattle.std.specs.Simd.Lanes.{zip2};
 
 use super::constants::K;
+use super::word::Word;
 
-fn ch(x: u32, y: u32, z: u32) -> u32
-    ensures { result ≡ Ch x y z }
+fn ch<W: Word>(x: W, y: W, z: W) -> W
+    ensures { (l : ℕ) → l < W.lanes → W.lane l result ≡ Ch (W.lane l x) (W.lane l y) (W.lane l z) }
 {
-    (x & y) ^ (!x & z)
+    x.and(y).xor(x.not().and(z))
 }
 
-fn maj(x: u32, y: u32, z: u32) -> u32
-    ensures { result ≡ Maj x y z }
+fn maj<W: Word>(x: W, y: W, z: W) -> W
+    ensures { (l : ℕ) → l < W.lanes → W.lane l result ≡ Maj (W.lane l x) (W.lane l y) (W.lane l z) }
 {
-    (x & y) ^ (x & z) ^ (y & z)
+    x.and(y).xor(x.and(z)).xor(y.and(z))
 }
 
-fn big_sigma0(x: u32) -> u32
-    ensures { result ≡ Σ₀ x }
+fn big_sigma0<W: Word>(x: W) -> W
+    ensures { (l : ℕ) → l < W.lanes → W.lane l result ≡ Σ₀ (W.lane l x) }
 {
-    x.rotate_right(2) ^ x.rotate_right(13) ^ x.rotate_right(22)
+    x.rotate_right(2)
+        .xor(x.rotate_right(13))
+        .xor(x.rotate_right(22))
 }
 
-fn big_sigma1(x: u32) -> u32
-    ensures { result ≡ Σ₁ x }
+fn big_sigma1<W: Word>(x: W) -> W
+    ensures { (l : ℕ) → l < W.lanes → W.lane l result ≡ Σ₁ (W.lane l x) }
 {
-    x.rotate_right(6) ^ x.rotate_right(11) ^ x.rotate_right(25)
+    x.rotate_right(6)
+        .xor(x.rotate_right(11))
+        .xor(x.rotate_right(25))
 }
 
-fn sigma0(x: u32) -> u32
-    ensures { result ≡ σ₀ x }
+fn sigma0<W: Word>(x: W) -> W
+    ensures { (l : ℕ) → l < W.lanes → W.lane l result ≡ σ₀ (W.lane l x) }
 {
-    x.rotate_right(7) ^ x.rotate_right(18) ^ (x >> 3)
+    x.rotate_right(7)
+        .xor(x.rotate_right(18))
+        .xor(x.shift_right(3))
 }
 
-fn sigma1(x: u32) -> u32
-    ensures { result ≡ σ₁ x }
+fn sigma1<W: Word>(x: W) -> W
+    ensures { (l : ℕ) → l < W.lanes → W.lane l result ≡ σ₁ (W.lane l x) }
 {
-    x.rotate_right(17) ^ x.rotate_right(19) ^ (x >> 10)
+    x.rotate_right(17)
+        .xor(x.rotate_right(19))
+        .xor(x.shift_right(10))
 }
 
 // One round over the working variables a to h.
-fn round(v: [u32; 8], k: u32, w: u32) -> [u32; 8]
-    ensures { result ≡ round k w v }
+fn round<W: Word>(v: [W; 8], k: u32, w: W) -> [W; 8]
+    ensures { (l : ℕ) → l < W.lanes → map (W.lane l) result ≡ round k (W.lane l w) (map (W.lane l) v) }
 {
     let [a, b, c, d, e, f, g, h] = v;
     let t1 = h
-        .wrapping_add(big_sigma1(e))
-        .wrapping_add(ch(e, f, g))
-        .wrapping_add(k)
-        .wrapping_add(w);
-    let t2 = big_sigma0(a).wrapping_add(maj(a, b, c));
-    [t1.wrapping_add(t2), a, b, c, d.wrapping_add(t1), e, f, g]
+        .plus(big_sigma1(e))
+        .plus(ch(e, f, g))
+        .plus(W::splat(k))
+        .plus(w);
+    let t2 = big_sigma0(a).plus(maj(a, b, c));
+    [t1.plus(t2), a, b, c, d.plus(t1), e, f, g]
 }
 
-// The next sixteen words of the message schedule, moved on by one.
-fn advance(w: [u32; 16]) -> [u32; 16]
-    ensures { result ≡ advanced w }
+// The next sixteen words of the message schedule, moved on by one; written out, as a loop takes a tenth of the speed.
+fn advance<W: Word>(w: [W; 16]) -> [W; 16]
+    ensures { (l : ℕ) → l < W.lanes → map (W.lane l) result ≡ advanced (map (W.lane l) w) }
 {
     let [
         w0,
@@ -78,112 +89,91 @@ fn advance(w: [u32; 16]) -> [u32; 16]
         w14,
         w15,
     ] = w;
-    let next = sigma1(w14)
-        .wrapping_add(w9)
-        .wrapping_add(sigma0(w1))
-        .wrapping_add(w0);
+    let next = sigma1(w14).plus(w9).plus(sigma0(w1)).plus(w0);
     [
         w1, w2, w3, w4, w5, w6, w7, w8, w9, w10, w11, w12, w13, w14, w15, next,
     ]
 }
 
-// A compression part way: the working variables, and the next sixteen words of the schedule.
-#[derive(Clone, Copy)]
-struct Stage {
-    v: [u32; 8],
-    w: [u32; 16],
-}
-
-// Round t, with the schedule moved on.
-fn step(s: Stage, t: usize) -> Stage
-    requires { t < 48 }
-    ensures { (block h : List ℕ) → Underway t block h s.v s.w → Underway (t + 1) block h result.v result.w }
+// Round t + j, by the word at j of the sixteen from t on.
+#[inline(always)]
+fn step<W: Word>(v: [W; 8], w: [W; 16], t: usize, j: usize) -> [W; 8]
+    requires t { t ≤ 48 }
+    requires j { j < 16 }
+    ensures { (l : ℕ) (block h : List ℕ) → l < W.lanes → Underway t j block h (map (W.lane l) v) (map (W.lane l) w) → Underway t (j + 1) block h (map (W.lane l) result) (map (W.lane l) w) }
 {
-    let Stage { v, w } = s;
-    let v = round(v, K[t], w[0]);
-    let w = advance(w);
-    Stage { v, w }
+    round(v, K[t + j], w[j])
 }
 
-// Sixteen rounds from round t on.
-fn sixteen(s: Stage, t: usize) -> Stage
-    requires { t ≤ 32 }
-    ensures { (block h : List ℕ) → Underway t block h s.v s.w → Underway (t + 16) block h result.v result.w }
+#[inline(always)]
+fn four_steps<W: Word>(v: [W; 8], w: [W; 16], t: usize, j: usize) -> [W; 8]
+    requires t { t ≤ 48 }
+    requires j { j ≤ 12 }
+    ensures { (l : ℕ) (block h : List ℕ) → l < W.lanes → Underway t j block h (map (W.lane l) v) (map (W.lane l) w) → Underway t (j + 4) block h (map (W.lane l) result) (map (W.lane l) w) }
 {
-    let s = step(s, t);
-    let s = step(s, t + 1);
-    let s = step(s, t + 2);
-    let s = step(s, t + 3);
-    let s = step(s, t + 4);
-    let s = step(s, t + 5);
-    let s = step(s, t + 6);
-    let s = step(s, t + 7);
-    let s = step(s, t + 8);
-    let s = step(s, t + 9);
-    let s = step(s, t + 10);
-    let s = step(s, t + 11);
-    let s = step(s, t + 12);
-    let s = step(s, t + 13);
-    let s = step(s, t + 14);
-    step(s, t + 15)
+    let v = step(v, w, t, j);
+    let v = step(v, w, t, j + 1);
+    let v = step(v, w, t, j + 2);
+    step(v, w, t, j + 3)
 }
 
-// Round 48 + j, by the word at j of those that are left.
-fn last(v: [u32; 8], w: [u32; 16], j: usize) -> [u32; 8]
-    requires { j < 16 }
-    ensures { (block h : List ℕ) → Ending j block h v w → Ending (j + 1) block h result w }
+#[inline(always)]
+fn sixteen_steps<W: Word>(v: [W; 8], w: [W; 16], t: usize) -> [W; 8]
+    requires { t ≤ 48 }
+    ensures { (l : ℕ) (block h : List ℕ) → l < W.lanes → Underway t 0 block h (map (W.lane l) v) (map (W.lane l) w) → Underway t 16 block h (map (W.lane l) result) (map (W.lane l) w) }
 {
-    round(v, K[48 + j], w[j])
+    let v = four_steps(v, w, t, 0);
+    let v = four_steps(v, w, t, 4);
+    let v = four_steps(v, w, t, 8);
+    four_steps(v, w, t, 12)
 }
 
-// The last sixteen rounds.
-fn last_sixteen(v: [u32; 8], w: [u32; 16]) -> [u32; 8]
-    ensures { (block h : List ℕ) → Ending 0 block h v w → Ending 16 block h result w }
+#[inline(always)]
+fn advance_four<W: Word>(w: [W; 16]) -> [W; 16]
+    ensures { (l t : ℕ) (block : List ℕ) → l < W.lanes → length block ≡ 16 → map (W.lane l) w ≡ window t block → map (W.lane l) result ≡ window (t + 4) block }
 {
-    let v = last(v, w, 0);
-    let v = last(v, w, 1);
-    let v = last(v, w, 2);
-    let v = last(v, w, 3);
-    let v = last(v, w, 4);
-    let v = last(v, w, 5);
-    let v = last(v, w, 6);
-    let v = last(v, w, 7);
-    let v = last(v, w, 8);
-    let v = last(v, w, 9);
-    let v = last(v, w, 10);
-    let v = last(v, w, 11);
-    let v = last(v, w, 12);
-    let v = last(v, w, 13);
-    let v = last(v, w, 14);
-    last(v, w, 15)
+    advance(advance(advance(advance(w))))
 }
 
-// The hash value h with the working variables v added.
-fn sum(h: [u32; 8], v: [u32; 8]) -> [u32; 8]
-    ensures { result ≡ zip2 ◌⊞◌ h v }
+#[inline(always)]
+fn advance_sixteen<W: Word>(w: [W; 16]) -> [W; 16]
+    ensures { (l t : ℕ) (block : List ℕ) → l < W.lanes → length block ≡ 16 → map (W.lane l) w ≡ window t block → map (W.lane l) result ≡ window (t + 16) block }
+{
+    advance_four(advance_four(advance_four(advance_four(w))))
+}
+
+// The hash value h with the working variables v added. For `array::from_fn` over arrays of a type parameter no proof closed.
+fn sum<W: Word>(h: [W; 8], v: [W; 8]) -> [W; 8]
+    ensures { (l : ℕ) → l < W.lanes → map (W.lane l) result ≡ zip2 ◌⊞◌ (map (W.lane l) h) (map (W.lane l) v) }
 {
     [
-        h[0].wrapping_add(v[0]),
-        h[1].wrapping_add(v[1]),
-        h[2].wrapping_add(v[2]),
-        h[3].wrapping_add(v[3]),
-        h[4].wrapping_add(v[4]),
-        h[5].wrapping_add(v[5]),
-        h[6].wrapping_add(v[6]),
-        h[7].wrapping_add(v[7]),
+        h[0].plus(v[0]),
+        h[1].plus(v[1]),
+        h[2].plus(v[2]),
+        h[3].plus(v[3]),
+        h[4].plus(v[4]),
+        h[5].plus(v[5]),
+        h[6].plus(v[6]),
+        h[7].plus(v[7]),
     ]
+}
+
+// The hash values after a block of sixteen words in each lane.
+pub fn compress_lanes<W: Word>(h: [W; 8], block: [W; 16]) -> [W; 8]
+    ensures { (l : ℕ) → l < W.lanes → map (W.lane l) result ≡ compressed (map (W.lane l) h) (map (W.lane l) block) }
+{
+    let mut v = h;
+    let mut w = block;
+    for i in 0..3 {
+        v = sixteen_steps(v, w, 16 * i);
+        w = advance_sixteen(w);
+    }
+    sum(h, sixteen_steps(v, w, 48))
 }
 
 // The hash value after a block of sixteen words.
 pub fn compress(h: [u32; 8], block: [u32; 16]) -> [u32; 8]
     ensures { result ≡ compressed h block }
 {
-    let mut s = Stage { v: h, w: block };
-    for i in 0..3 {
-        let next = sixteen(s, 16 * i);
-        s = next;
-    }
-    let Stage { v, w } = s;
-    let v = last_sixteen(v, w);
-    sum(h, v)
+    compress_lanes(h, block)
 }

@@ -7,6 +7,7 @@ ghost use Rattle.sha256.specs.Sha256.{padded, sha256};
 pub mod blocks;
 pub mod compress;
 pub mod constants;
+pub mod word;
 pub mod words;
 
 use blocks::finish;

@@ -3,22 +3,13 @@ ghost use Rattle.std.specs.Prelude.{◌≡◌, ◌<◌, ◌≤◌, length, Match
 ghost use Rattle.sha256.specs.Blocks.{remaining};
 ghost use Rattle.sha256.specs.Sha256.{words, bytes};
 
-use super::blocks::{opened, sealed, word};
+use super::blocks::{self, opened, sealed};
 
 // The words of 32 bytes.
 pub fn from_bytes(bytes: [u8; 32]) -> [u32; 8]
     ensures { result ≡ words 8 bytes }
 {
-    [
-        word(&bytes, 0),
-        word(&bytes, 1),
-        word(&bytes, 2),
-        word(&bytes, 3),
-        word(&bytes, 4),
-        word(&bytes, 5),
-        word(&bytes, 6),
-        word(&bytes, 7),
-    ]
+    blocks::words(&bytes)
 }
 
 // The one block that a message of under 56 bytes makes after a first block.
@@ -37,9 +28,6 @@ pub fn to_bytes(v: [u32; 8]) -> [u8; 32]
     ensures { result ≡ bytes v }
 {
     let mut out = [0; 32];
-    for i in 0..8 {
-        let four = v[i].to_be_bytes();
-        out[4 * i..4 * i + 4].copy_from_slice(&four);
-    }
+    out.copy_from_slice(v.map(u32::to_be_bytes).as_flattened());
     out
 }

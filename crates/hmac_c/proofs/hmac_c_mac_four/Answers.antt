@@ -1,26 +1,18 @@
-use Rattle.std.proofs.Common.{◌≡◌, ℕ, List, ◌++◌, length, take, drop, ap, ◌∙◌, rules}
+use Rattle.std.proofs.Common.{◌≡◌, List, ℕ, [], ◌∷◌, take, drop, map, ap, ◌∙◌, rules}
+use Rattle.std.proofs.lemmas.List.{append-nil}
+use Rattle.std.specs.List.{flat_map}
+use Rattle.hmac.specs.declared.Mac.{Mac}
 use Rattle.hmac.specs.Hmac.{hmac_of}
-use Rattle.hmac.proofs.Laws.{hmac_length}
-use Rattle.hmac_c.proofs.Parts.{four_parts}
+use Rattle.sha256.proofs.FromFn.{map_gives}
 use Rattle.hmac_c.proofs.hmac_c_mac_four.Goals as goal
 
-pub returns : goal.returns
-returns c =
+pub returns-clause-value : goal.returns-clause-value
+returns-clause-value c =
     let k : List ℕ = c.args.keys.now in
-    let p : List ℕ = c.copy_from_slice.new.self in
-    let q : List ℕ = c.copy_from_slice-2.new.self in
-    let r : List ℕ = c.copy_from_slice-3.new.self in
-    let s : List ℕ = c.copy_from_slice-4.new.self in
-    let a : List ℕ = hmac_of (take 32 k) c.args.a.now in
-    let b : List ℕ = hmac_of (take 32 (drop 32 k)) c.args.b.now in
-    let d : List ℕ = hmac_of (take 32 (drop 64 k)) c.args.c.now in
-    let e : List ℕ = hmac_of (take 32 (drop 96 k)) c.args.d.now in
-    let pa : p ≡ a = c.copy_from_slice.ensures.after ∙ c.bytes.ensures ∙ c.mac_four.ensures.first ∙ ap (λ x. hmac_of x c.args.a.now) c.key_at.ensures in
-    let qb : q ≡ b = c.copy_from_slice-2.ensures.after ∙ c.bytes-2.ensures ∙ c.mac_four.ensures.second ∙ ap (λ x. hmac_of x c.args.b.now) c.key_at-2.ensures in
-    let rd : r ≡ d = c.copy_from_slice-3.ensures.after ∙ c.bytes-3.ensures ∙ c.mac_four.ensures.third ∙ ap (λ x. hmac_of x c.args.c.now) c.key_at-3.ensures in
-    let se : s ≡ e = c.copy_from_slice-4.ensures.after ∙ c.bytes-4.ensures ∙ c.mac_four.ensures.fourth ∙ ap (λ x. hmac_of x c.args.d.now) c.key_at-4.ensures in
-    let parts = four_parts c.args.out.now p q r s c.if-out-ne128.false (ap length pa ∙ hmac_length (take 32 k) c.args.a.now) (ap length qb ∙ hmac_length (take 32 (drop 32 k)) c.args.b.now) (ap length rd ∙ hmac_length (take 32 (drop 64 k)) c.args.c.now) in
-    record {
-      value = parts ∙ ap (λ x. x ++ (q ++ (r ++ s))) pa ∙ ap (λ x. a ++ (x ++ (r ++ s))) qb ∙ ap (λ x. a ++ (b ++ (x ++ s))) rd ∙ ap (λ x. a ++ (b ++ (d ++ x))) se;
-      fills = search rules;
-    }
+    let macs = c.mac_four-macs.result in
+    let bytes : Mac → List ℕ = λ m. m.bytes in
+    let made : c.map.result ≡ map bytes macs = map_gives _ bytes macs c.map.result _ 4 (record { bytes = [] }) [] (search rules) (λ x y q call. search rules) c.map.ensures.items in
+    let four : map bytes macs ≡ hmac_of (take 32 k) c.args.a.now ∷ hmac_of (take 32 (drop 32 k)) c.args.b.now ∷ hmac_of (take 32 (drop 64 k)) c.args.c.now ∷ hmac_of (take 32 (drop 96 k)) c.args.d.now ∷ [] =
+    c.mac_four-macs.ensures
+    ∙ rw (c.request.ensures.key, c.request.ensures.message, c.request-2.ensures.key, c.request-2.ensures.message, c.request-3.ensures.key, c.request-3.ensures.message, c.request-4.ensures.key, c.request-4.ensures.message) in
+    c.copy_from_slice.ensures.after ∙ c.as_flattened.ensures.value ∙ ap (flat_map (λ x. x)) (made ∙ four) ∙ rw append-nil

@@ -1,31 +1,23 @@
-use Rattle.std.proofs.Common.{◌≡◌, ℕ, ◌<◌, length, get_or, ap, ◌∙◌, arith, rules}
-use Rattle.std.proofs.lemmas.List.{length-set}
-use Rattle.hmac4.proofs.Arrays.{lane_more, lane_all}
+use Rattle.std.proofs.Common.{◌≡◌, ℕ, ◌<◌, List, [], ◌∷◌, length, get_or, sym, refl, ap, ◌∙◌, arith, rules}
+use Rattle.std.proofs.lemmas.List.{ext_get_or, get_or-map, length-map}
+use Rattle.sha256.proofs.FromFn.{from_fn_gives}
+use Rattle.hmac4.specs.Lanes.{lane}
 use Rattle.hmac4.proofs.lanes.gather.Goals as goal
 
-pub loop-i-preserved : goal.loop-i-preserved
-loop-i-preserved c =
-    let i : ℕ = c.loop-i.i in
-    let o = c.loop-i.out in
-    let q = c.of.result in
-    let e = c.of.ensures in
-    let v = c.loop-i.invariant in
-    let n : i < length o = omega arith in (
-      length-set o i q ∙ v.0,
-      lane_more 0 i o q c.args.a n (search rules) v.1 (ap (λ x. get_or x 0 0) e),
-      lane_more 1 i o q c.args.b n (search rules) v.2 (ap (λ x. get_or x 1 0) e),
-      lane_more 2 i o q c.args.c n (search rules) v.3 (ap (λ x. get_or x 2 0) e),
-      lane_more 3 i o q c.args.d n (search rules) v.4 (ap (λ x. get_or x 3 0) e),
-    )
-
 pub returns : goal.returns
-returns c =
-    let o = c.loop-i.out in
-    let i : c.loop-i.i ≡ 16 = omega arith in
-    let v = rw i at c.loop-i.invariant in
+returns g c =
+    let n : ℕ = g.row.N in
+    let vs = c.from_fn.result in
+    let made = c.from_fn.ensures.items in
+    let at : ℕ → List ℕ = λ i. get_or c.args.a i 0 ∷ get_or c.args.b i 0 ∷ get_or c.args.c i 0 ∷ get_or c.args.d i 0 ∷ [] in
+    let each : (i : ℕ) → i < n → get_or vs i [] ≡ at i = λ i k. from_fn_gives _ at vs _ n (λ j y q call. search rules) made.each i [] k in
+    let row : (l : ℕ) (xs : List ℕ) → length xs ≡ n → ((i : ℕ) → get_or (at i) l 0 ≡ get_or xs i 0) → lane l vs ≡ xs = λ l xs long same.
+    ext_get_or 0 (lane l vs) xs (length-map vs (λ v. get_or v l 0) ∙ made.long ∙ sym long) (λ i h.
+    let k : i < n = rw (length-map, made.long) at h in
+    get_or-map (λ v. get_or v l 0) vs i [] 0 (omega arith) ∙ ap (λ v. get_or v l 0) (each i k) ∙ same i) in
     record {
-      first = lane_all 0 16 o c.args.a v.0 (search rules) v.1;
-      second = lane_all 1 16 o c.args.b v.0 (search rules) v.2;
-      third = lane_all 2 16 o c.args.c v.0 (search rules) v.3;
-      fourth = lane_all 3 16 o c.args.d v.0 (search rules) v.4;
+      first = row 0 c.args.a (search rules) (λ i. refl);
+      second = row 1 c.args.b (search rules) (λ i. refl);
+      third = row 2 c.args.c (search rules) (λ i. refl);
+      fourth = row 3 c.args.d (search rules) (λ i. refl);
     }

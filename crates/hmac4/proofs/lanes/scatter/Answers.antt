@@ -1,8 +1,7 @@
-use Rattle.std.proofs.Common.{rules}
-use Rattle.hmac4.proofs.Arrays.{lane_whole}
+use Rattle.std.proofs.Common.{[], get_or, rules}
+use Rattle.sha256.proofs.FromFn.{map_gives}
 use Rattle.hmac4.proofs.lanes.scatter.Goals as goal
 
 pub returns : goal.returns
 returns c =
-    rw (c.lane.ensures, c.lane-2.ensures, c.lane-3.ensures, c.lane-4.ensures, c.lane-5.ensures, c.lane-6.ensures, c.lane-7.ensures, c.lane-8.ensures)
-    (lane_whole c.args.l 8 c.args.v (search rules))
+    map_gives _ (λ v. get_or v c.args.l 0) c.args.v c.map.result _ 8 [] 0 (search rules) (λ x y q call. search rules) c.map.ensures.items

@@ -1,8 +1,0 @@
-use lib.Bits.{bit_xor}
-use Rattle.std.proofs.Common.{rules}
-use Rattle.hmac4.proofs.Vectors.{of_vector, of_zip}
-use Rattle.hmac4.proofs.quad.Quad.xor.Goals as goal
-
-pub returns : goal.returns
-returns c =
-    of_zip bit_xor _ _ _ _ (of_vector c.args.self.lanes (search rules)) (of_vector c.args.other.lanes (search rules))
