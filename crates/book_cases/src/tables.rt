@@ -1,5 +1,5 @@
-// Bytes, and what is told of them: 0 if they are read as a book, else the number of the fault. The house's key is 32 times `h`, and the
-// secrets are letters too.
+// Bytes, and what is told of them: 0 if they are read as a book, else the number of the fault, as docs/FORMAT.md has it, which the table
+// is held to. The house's key is 32 times `h`, and the secrets are letters too.
 
 pub const BOOKS: [(&[u8], u8); 25] = [
     // two keys, the greatest number first, and the least; no keys; one secret under two numbers
