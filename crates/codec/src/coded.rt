@@ -9,13 +9,13 @@ use std::alloc::{AllocError, Global};
 
 /// It is read from the front of what a reader has left, and written.
 pub trait Coded {
-    // what there is of its kind
+    // the type that it has in the model
     ghost View: { Type 0 };
 
-    // which of them it is
+    // what it is there
     ghost view: { Self → View };
 
-    // how they are written and read
+    // how that is written and read
     ghost format: { Format View };
 
     /// After a fault the reader stands anywhere behind where it stood.

@@ -10,7 +10,7 @@ use lines::Fault;
 
 /// What is said under a MAC.
 pub trait Body {
-    // its kind in the model
+    // the type that it has in the model
     ghost View: { Type 0 };
 
     // what it is there
