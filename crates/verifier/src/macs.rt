@@ -7,7 +7,8 @@ ghost use Rattle.verifier.specs.Chain.{chained};
 use hmac::Mac;
 use rows::Lines;
 
-/// All MACs of a row, from the one that it starts with to that of its last line. An array and a count, since MACs are checked without a heap.
+/// All MACs of a row, from the one that it starts with to that of its last line.
+// An array and a count, since MACs are checked without a heap.
 #[derive(Clone, Copy)]
 pub struct Macs {
     each: [Mac; 33],
