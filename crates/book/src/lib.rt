@@ -6,8 +6,8 @@ ghost use Rattle.book.specs.Keys.{secret_in};
 ghost use Rattle.book.specs.Laws.{BookExact, OneOfANumber};
 ghost use Rattle.book.specs.Entries.{key_view, secret_view};
 ghost use Rattle.book.specs.Views.{book_view, Added};
-ghost use Rattle.showing.specs.Views.{Told};
 ghost use Rattle.std.specs.Prelude.{◌≡◌, [], IfOk};
+ghost use Rattle.trouble.specs.Told.{Told};
 
 mod held;
 mod keys;
@@ -79,7 +79,7 @@ impl Book {
 
 /// Reads the book that these bytes are as a whole, to its end or its first fault.
 pub fn read_book(heap: Global, bytes: &[u8]) -> Result<Book, Unread>
-    ensures { Told book_view (book_of bytes.now) result }
+    ensures { Told book_view result (book_of bytes.now) }
 {
     let mut reader = Reader::new(bytes);
     read_kind(&mut reader, Kind::Book as u8)?;
@@ -91,7 +91,7 @@ pub fn read_book(heap: Global, bytes: &[u8]) -> Result<Book, Unread>
         book.put(key)?;
     }
     if !reader.is_empty() {
-        return Err(Unread::Bad(Fault::Shape));
+        return Err(Unread::Unreadable(Fault::Shape));
     }
     Ok(book)
 }

@@ -15,8 +15,8 @@ fn told(rt: &impl Abort, heap: Global, bytes: &[u8]) -> Result<u8, Fail> {
             assert!(rt; book.to_bytes(heap)?.as_slice() == bytes);
             Ok(0)
         }
-        Err(Unread::Bad(Fault::Shape)) => Ok(1),
-        Err(Unread::Bad(Fault::Unreadable)) => Ok(2),
+        Err(Unread::Unreadable(Fault::Shape)) => Ok(1),
+        Err(Unread::Unreadable(Fault::Unreadable)) => Ok(2),
         Err(_) => Err(Fail::new("neither read nor at one of these faults")),
     }
 }

@@ -8,6 +8,7 @@ ghost use Rattle.lines.specs.Shapes.{Tells};
 ghost use Rattle.lines.specs.Views.{limit_view, line_view, line_read};
 ghost use Rattle.numbers.specs.Lent.{WritesFront};
 ghost use Rattle.std.specs.Prelude.{◌≡◌, length, Ok};
+ghost use Rattle.trouble.specs.declared.Trouble.TheVariants.{Unreadable};
 ghost use Rattle.wishes.specs.Views.{wish_view};
 
 mod kinds;
@@ -19,6 +20,7 @@ use kinds::Kind;
 use numbers::Number;
 pub use parts::{KeyNumber, Museums, Name, Span};
 use reading::read_content;
+use trouble::Trouble;
 pub use wishes::{RawWish, Wish, read_wish};
 use writing::write_line;
 
@@ -40,6 +42,14 @@ impl From<Fault> for u8 {
 
     fn from(fault: Fault) -> u8 {
         fault as u8
+    }
+}
+
+impl From<Fault> for Trouble<Fault> {
+    ghost from_gives = { λ fault t. t ≡ Unreadable fault };
+
+    fn from(fault: Fault) -> Trouble<Fault> {
+        Trouble::Unreadable(fault)
     }
 }
 

@@ -3,7 +3,7 @@ ghost use Rattle.std.specs.Prelude.{◌≡◌};
 ghost use Rattle.making.specs.Cuts.{ending, lines_in, limits_in, parts_in};
 ghost use Rattle.making.specs.Views.{parts_read};
 ghost use Rattle.statements.specs.Views.{lines_view};
-ghost use Rattle.texts.specs.Told.{Told};
+ghost use Rattle.trouble.specs.Told.{Told};
 ghost use Rattle.texts.specs.Results.{cut_read};
 
 use lines::Line;

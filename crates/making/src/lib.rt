@@ -9,7 +9,7 @@
 
 ghost use Rattle.making.specs.Forms.{ticket_said, yes_said, add_said, tie_said};
 ghost use Rattle.statements.specs.Views.{stated};
-ghost use Rattle.texts.specs.Told.{Told};
+ghost use Rattle.trouble.specs.Told.{Told};
 ghost use Rattle.texts.specs.Cuts.{words_of};
 
 mod cuts;

@@ -8,8 +8,8 @@ use Rattle.texts.proofs.Labelling.{differs}
 use Rattle.statements.specs.Said.{Said}
 use Rattle.statements.specs.Views.{stated}
 use Rattle.statements.specs.declared.Statement.{Statement}
-use Rattle.texts.specs.declared.trouble.Trouble.{Trouble}
-use Rattle.texts.specs.Told.{Told}
+use Rattle.trouble.specs.declared.Trouble.{Trouble}
+use Rattle.trouble.specs.Told.{Told}
 use Rattle.reading.specs.Forms.{said_by}
 
 -- w is the word v

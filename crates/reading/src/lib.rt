@@ -12,7 +12,7 @@
 
 ghost use Rattle.reading.specs.Forms.{said_by, said_in};
 ghost use Rattle.statements.specs.Views.{stated};
-ghost use Rattle.texts.specs.Told.{Told};
+ghost use Rattle.trouble.specs.Told.{Told};
 ghost use Rattle.std.specs.Option.{option_map};
 
 mod passed;

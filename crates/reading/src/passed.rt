@@ -2,7 +2,7 @@
 ghost use Rattle.reading.specs.Forms.{house_said, key_said, gift_said, give_said};
 ghost use Rattle.reading.specs.Views.{gift_view};
 ghost use Rattle.statements.specs.Views.{stated};
-ghost use Rattle.texts.specs.Told.{Told};
+ghost use Rattle.trouble.specs.Told.{Told};
 ghost use Rattle.texts.specs.Cuts.{words_of};
 
 use statements::{Gift, Statement, Trouble, owned_pair};

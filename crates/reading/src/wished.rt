@@ -2,7 +2,7 @@
 ghost use Rattle.reading.specs.Forms.{wish_said, show_said};
 ghost use Rattle.std.specs.Prelude.{Ok};
 ghost use Rattle.statements.specs.Views.{stated, names_view};
-ghost use Rattle.texts.specs.Told.{Told};
+ghost use Rattle.trouble.specs.Told.{Told};
 ghost use Rattle.texts.specs.Cuts.{words_of};
 
 use statements::{Statement, Trouble, asked_in, owned_pair};

@@ -3,12 +3,13 @@ ghost use Rattle.std.specs.Prelude.{false};
 ghost use Rattle.script.specs.Rules.{Said, sense, house_sense, sense_placed};
 ghost use Rattle.script.specs.Views.{stated};
 ghost use Rattle.texts.specs.Cuts.{words_of};
-ghost use Rattle.texts.specs.Told.{Told};
+ghost use Rattle.trouble.specs.Told.{Told};
 
 use crate::{Cause, Statement};
 use scripting::Language;
 use std::alloc::Global;
-use texts::{Trouble, next_word};
+use texts::next_word;
+use trouble::Trouble;
 
 pub struct HouseOnly;
 

@@ -8,12 +8,12 @@ ghost use Rattle.std.specs.Option.{option_map};
 ghost use Rattle.scripting.specs.Laws.{AsAlone, LineByLine, CommentsAside};
 ghost use Rattle.scripting.specs.Rules.{lines_in, uncommented, reads};
 ghost use Rattle.scripting.specs.Views.{told};
-ghost use Rattle.texts.specs.Told.{Told};
+ghost use Rattle.trouble.specs.Told.{Told};
 
 mod display;
 
 use std::alloc::{AllocError, Global};
-use texts::Trouble;
+use trouble::Trouble;
 
 /// A language of statements, each on a line of its own.
 pub trait Language {

@@ -6,9 +6,9 @@ use Rattle.std.specs.Result.{result_map_both}
 use Rattle.std.proofs.lemmas.Bool.{cond-true, cond-false}
 use Rattle.std.proofs.lemmas.Result.{err_from_is_err_and}
 use Rattle.texts.specs.declared.Cause as text
-use Rattle.texts.specs.declared.trouble.Trouble.{Trouble}
-use Rattle.texts.specs.declared.trouble.Trouble.TheVariants.{Unreadable, NoMemory}
-use Rattle.texts.specs.Told.{Told}
+use Rattle.trouble.specs.declared.Trouble.{Trouble}
+use Rattle.trouble.specs.declared.Trouble.TheVariants.{Unreadable, NoMemory}
+use Rattle.trouble.specs.Told.{Told}
 use Rattle.reading.specs.Forms.{said_in}
 use Rattle.statements.specs.Said.{Said}
 use Rattle.statements.specs.Views.{stated}

@@ -4,8 +4,8 @@ use Rattle.scripting.specs.declared.Script.{Script}
 use Rattle.statements.specs.Views.{stated}
 use Rattle.statements.specs.declared.Statement.{Statement}
 use Rattle.texts.specs.declared.Cause as text
-use Rattle.texts.specs.declared.trouble.Trouble.{Trouble}
-use Rattle.texts.specs.declared.trouble.Trouble.TheVariants.{Unreadable, NoMemory}
+use Rattle.trouble.specs.declared.Trouble.{Trouble}
+use Rattle.trouble.specs.declared.Trouble.TheVariants.{Unreadable, NoMemory}
 use Rattle.scripts.specs.declared.Cause.{Cause}
 use Rattle.scripts.specs.declared.Cause.TheVariants.{Words}
 use Rattle.scripts.specs.Rules.{Outcome}

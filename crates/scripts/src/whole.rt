@@ -10,7 +10,7 @@ use reading::read_statement;
 use scripting::Language;
 use statements::Statement;
 use std::alloc::Global;
-use texts::Trouble;
+use trouble::Trouble;
 
 pub struct AllStatements;
 

@@ -2,7 +2,7 @@
 ghost use Rattle.std.specs.Prelude.{◌≡◌};
 ghost use Rattle.wishes.specs.Views.{raw_view};
 ghost use Rattle.statements.specs.Views.{asked_view};
-ghost use Rattle.texts.specs.Told.{Told};
+ghost use Rattle.trouble.specs.Told.{Told};
 ghost use Rattle.words.specs.Wishes.{wish_in};
 
 use crate::Trouble;

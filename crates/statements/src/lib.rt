@@ -76,7 +76,7 @@ pub enum Gift {
 }
 
 /// Why a statement, or a part of one, could not be read.
-pub type Trouble = texts::Trouble<Cause>;
+pub type Trouble = trouble::Trouble<Cause>;
 
 /// Two words, as strings of their own.
 pub fn owned_pair(heap: Global, first: &str, second: &str) -> Result<(String, String), AllocError>

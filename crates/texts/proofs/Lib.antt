@@ -3,4 +3,3 @@ pub mod Lasts
 pub mod Steps
 pub mod Digits
 pub mod Labelling
-pub mod Chains

@@ -3,4 +3,3 @@ pub mod Cuts
 pub mod Results
 pub mod Labels
 pub mod Numerals
-pub mod Told

@@ -4,16 +4,18 @@
 // nothing.
 #![tactic(auto)]
 
+ghost use Rattle.std.specs.Prelude.{◌≡◌};
+ghost use Rattle.trouble.specs.declared.Trouble.TheVariants.{Unreadable};
+
 mod cut;
 mod labels;
 mod numeral;
-mod trouble;
 mod wording;
 
 pub use cut::{head_and_tail, last_word, next_word, only_word, optional_word, word_and_rest};
 pub use labels::{after_label, only_after, pair_after};
 pub use numeral::{Unsigned, number};
-pub use trouble::Trouble;
+use trouble::Trouble;
 
 /// Why a text can't be read: one list for all that people type, so that a reader hands on what those below it tell.
 #[derive(Clone, Copy)]
@@ -38,4 +40,12 @@ pub enum Cause {
     /// Something else than a small letter, a to z, in a name.
     BadLetter,
     LongName,
+}
+
+impl From<Cause> for Trouble<Cause> {
+    ghost from_gives = { λ cause t. t ≡ Unreadable cause };
+
+    fn from(cause: Cause) -> Trouble<Cause> {
+        Trouble::Unreadable(cause)
+    }
 }

@@ -63,7 +63,7 @@ pub fn admit(
 {
     let verdict = match read_shown(heap, bytes) {
         Ok(shown) => verdict_on(book, shown),
-        Err(Unread::Bad(fault)) => Err(Refusal::Unread(fault)),
+        Err(Unread::Unreadable(fault)) => Err(Refusal::Unread(fault)),
         Err(Unread::NoMemory) => return Err(AllocError),
     };
     Ok((verdict, state))

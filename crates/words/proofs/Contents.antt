@@ -2,11 +2,9 @@
 use Rattle.std.proofs.Common.{◌≡◌, ℕ, ◌<◌, ◌≤◌, false, cond, leb, List, [], length, Some, None, Ok, Err, Option, MatchOption, sym, ap, ◌∙◌, ⊎_elim, arith}
 use Rattle.std.proofs.lemmas.Bool.{cond-true, cond-false, and_parts, and_cases, le-leb, lt-leb, both_ways}
 use Rattle.narrow.specs.Rows.{all}
-use Rattle.parts.specs.declared.Museums.{Museums}
-use Rattle.parts.specs.declared.Name.{Name}
 use Rattle.parts.specs.declared.Span.{Span}
 use Rattle.parts.specs.declared.KeyNumber.{KeyNumber}
-use Rattle.parts.specs.Items.{items}
+use Rattle.parts.specs.Items.{Museums, Name, items}
 use Rattle.parts.specs.Limits.{is_museums, is_name, is_letter, longest_name, last_key}
 use Rattle.texts.specs.declared.Cause.{Cause}
 use Rattle.texts.specs.declared.Cause.TheVariants.{NoSuchMuseum, NoSuchKey, Backward, BadLetter, LongName}
@@ -26,7 +24,7 @@ module _ (w : List ℕ) where
     unfolding museums_of
     list_is = ap (λ r. and_then r known_museums) (sym e)
 
-    pub list_told : (o : Option Museums) → MatchOption o (is_museums ms ≡ false) (λ m. items m.list ≡ ms) → MatchOption o (Err NoSuchMuseum ≡ museums_of w) (λ m. Ok (items m.list) ≡ museums_of w)
+    pub list_told : (o : Option Museums) → MatchOption o (is_museums ms ≡ false) (λ m. items m ≡ ms) → MatchOption o (Err NoSuchMuseum ≡ museums_of w) (λ m. Ok (items m) ≡ museums_of w)
     list_told None h = sym (list_is ∙ cond-false (is_museums ms) _ _ h)
     list_told (Some m) h = ap Ok h ∙ sym (list_is ∙ cond-true (is_museums ms) _ _ (ap is_museums (sym h) ∙ m.possible))
 
@@ -49,7 +47,7 @@ module _ (w : List ℕ) where
   unfolding name_of
   name_long h = sym (cond-false (leb (length w) longest_name) _ _ (lt-leb (length w) 32 h))
 
-  pub name_told : length w ≤ 32 → (o : Option Name) → MatchOption o (is_name w ≡ false) (λ n. items n.letters ≡ w) → MatchOption o (Err BadLetter ≡ name_of w) (λ n. Ok (items n.letters) ≡ name_of w)
+  pub name_told : length w ≤ 32 → (o : Option Name) → MatchOption o (is_name w ≡ false) (λ n. items n ≡ w) → MatchOption o (Err BadLetter ≡ name_of w) (λ n. Ok (items n) ≡ name_of w)
   unfolding name_of
   name_told l None h =
       let fits = le-leb (length w) 32 l in

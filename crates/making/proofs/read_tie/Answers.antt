@@ -2,7 +2,7 @@ use Rattle.std.proofs.Common.{Ok, ◌∙◌}
 use Rattle.texts.proofs.Steps.{so, no, last_so, last_no}
 use Rattle.statements.specs.Said.{tie_by}
 use Rattle.statements.specs.Views.{stated}
-use Rattle.texts.proofs.Chains.{stops}
+use Rattle.trouble.proofs.Chains.{stops}
 use Rattle.making.specs.Forms.{tie_said}
 use Rattle.making.proofs.read_tie.Goals as goal
 

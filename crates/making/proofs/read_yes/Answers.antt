@@ -3,7 +3,7 @@ use Rattle.making.specs.Cuts.{limits_in}
 use Rattle.texts.proofs.Steps.{so, no, last_so, last_no}
 use Rattle.statements.specs.Said.{yes_by}
 use Rattle.statements.specs.Views.{stated, lines_view}
-use Rattle.texts.proofs.Chains.{stops, hands_on}
+use Rattle.trouble.proofs.Chains.{stops, hands_on}
 use Rattle.making.specs.Forms.{yes_said}
 use Rattle.making.proofs.read_yes.Goals as goal
 

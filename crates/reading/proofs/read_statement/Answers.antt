@@ -3,7 +3,7 @@ use Rattle.std.specs.Option.{option_map}
 use Rattle.reading.specs.Forms.{said_by, by_first, said_in}
 use Rattle.statements.specs.Views.{stated}
 use Rattle.texts.proofs.Steps.{last_so, last_no}
-use Rattle.texts.proofs.Chains.{hands_on}
+use Rattle.trouble.proofs.Chains.{hands_on}
 use Rattle.reading.proofs.read_statement.Goals as goal
 
 pub returns-in_default : goal.returns-in_default

@@ -15,12 +15,12 @@ pub returns-in_err-count : goal.returns-in_err-count
 returns-in_err-count c =
     let p = err_from_is_err_and c.from_residual.result c.from_residual.ensures.1 in
     let (short, same) = wanting _ _ _ _ _ c.in_err-count.ensures.value c.byte.ensures in
-    rw (p.1, p.2) (record { read = count_none tied most_yeses c.args.reader.now.rest.now short.0 ∙ ap Err same; few = tt })
+    rw (p.1, p.2) (record { read = sym (count_none tied most_yeses c.args.reader.now.rest.now short.0 ∙ ap Err same); few = tt })
 
 pub returns-then-count-gt32 : goal.returns-then-count-gt32
 returns-then-count-gt32 c =
     let head = MatchOption-at_some _ _ _ c.in_ok-count.ensures.ok_part c.byte.ensures in
-    record { read = count_many tied most_yeses c.args.reader.now.rest.now _ _ head c.if-count-gt32.true; few = tt }
+    record { read = sym (count_many tied most_yeses c.args.reader.now.rest.now _ _ head c.if-count-gt32.true); few = tt }
 
 pub returns-in_err-yes : goal.returns-in_err-yes
 returns-in_err-yes c =
@@ -30,8 +30,9 @@ returns-in_err-yes c =
     rw (p.1, p.2)
     (record {
       read =
-          count_on tied most_yeses c.args.reader.now.rest.now _ _ head (omega (arith, c.if-count-gt32.false)) ∙
-          (c.loop.invariant.1 ∙ after_stop tied.read left _ c.loop.reader.rest.now (omega (arith, c.loop-test.true)) _ c.in_err-yes.ensures);
+          sym
+          (count_on tied most_yeses c.args.reader.now.rest.now _ _ head (omega (arith, c.if-count-gt32.false)) ∙
+          (c.loop.invariant.1 ∙ after_stop tied.read left _ c.loop.reader.rest.now (omega (arith, c.loop-test.true)) _ c.in_err-yes.ensures));
       few = tt;
     })
 
@@ -53,7 +54,8 @@ returns c =
     let left = c.in_ok-count.count - c.loop.counter in
     record {
       read =
-          count_on tied most_yeses c.args.reader.now.rest.now _ _ head (omega (arith, c.if-count-gt32.false)) ∙
-          (c.loop.invariant.1 ∙ after_done tied.read left _ c.loop.reader.rest.now (omega (arith, c.loop-test.false)));
+          sym
+          (count_on tied most_yeses c.args.reader.now.rest.now _ _ head (omega (arith, c.if-count-gt32.false)) ∙
+          (c.loop.invariant.1 ∙ after_done tied.read left _ c.loop.reader.rest.now (omega (arith, c.loop-test.false))));
       few = omega (arith, c.loop.invariant.0, c.if-count-gt32.false, c.loop.auto.counter-end);
     }

@@ -22,12 +22,12 @@ pub returns-in-Ok : goal.returns-in-Ok
 returns-in-Ok c =
     let s = secrets c.args.book.now in
     let bs = c.args.bytes.now in
-    let a = follows s bs c.verdict_on-verdict.result (c.verdict_on-verdict.ensures ∙ sym (read_on s bs (shown_view c.in-Ok.shown) c.in-Ok.ensures)) in
+    let a = follows s bs c.verdict_on-verdict.result (c.verdict_on-verdict.ensures ∙ sym (read_on s bs (shown_view c.in-Ok.shown) (sym c.in-Ok.ensures))) in
     record { verdict = a.verdict; through = a.through; why = a.why }
 
-pub returns-in-Err-Bad : goal.returns-in-Err-Bad
-returns-in-Err-Bad c =
+pub returns-in-Err-Unreadable : goal.returns-in-Err-Unreadable
+returns-in-Err-Unreadable c =
     let s = secrets c.args.book.now in
     let bs = c.args.bytes.now in
-    let a = follows s bs _ (sym (not_read s bs c.in-Err-Bad.fault (rw c.in-Err-Bad.field-0-is at c.in-Err-Bad.ensures))) in
+    let a = follows s bs _ (sym (not_read s bs c.in-Err-Unreadable.fault (sym (rw c.in-Err-Unreadable.field-0-is at c.in-Err-Unreadable.ensures)))) in
     record { verdict = a.verdict; through = a.through; why = a.why }

@@ -11,7 +11,7 @@ use Rattle.words.proofs.parse_limit.Goals as goal
 pub returns-in-museums : goal.returns-in-museums
 unfolding limit_of
 returns-in-museums c =
-    chained museums_of MuseumIn (λ w. w.now) (λ m. items m.list) limit_view c.only_word.result c.and_then.result c.map.result c.only_word.ensures (limit_at (words_of c.args.rest.now) c.in-museums.is)
+    chained museums_of MuseumIn (λ w. w.now) (λ m. items m) limit_view c.only_word.result c.and_then.result c.map.result c.only_word.ensures (limit_at (words_of c.args.rest.now) c.in-museums.is)
     c.and_then.ensures c.map.ensures.cases (λ w k. search rules) (λ y z k. search rules)
 
 pub returns-in-days : goal.returns-in-days
@@ -35,7 +35,7 @@ returns-in-persons c =
 pub returns-in-name : goal.returns-in-name
 unfolding limit_of
 returns-in-name c =
-    chained name_of NameIs (λ w. w.now) (λ n. items n.letters) limit_view c.optional_word.result c.and_then-in-name.result c.map-in-name.result c.optional_word.ensures (limit_at (words_of c.args.rest.now) c.in-name.is)
+    chained name_of NameIs (λ w. w.now) (λ n. items n) limit_view c.optional_word.result c.and_then-in-name.result c.map-in-name.result c.optional_word.ensures (limit_at (words_of c.args.rest.now) c.in-name.is)
     c.and_then-in-name.ensures c.map-in-name.ensures.cases (λ w k. search rules) (λ y z k. search rules)
 
 pub returns-in_default : goal.returns-in_default

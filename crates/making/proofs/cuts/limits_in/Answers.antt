@@ -2,7 +2,7 @@ use Rattle.std.proofs.Common.{map, Ok, sym, ap, ◌∙◌, subst}
 use Rattle.lines.specs.Views.{line_view}
 use Rattle.making.specs.Cuts.{lines_in, none_of, limits_in}
 use Rattle.statements.specs.Views.{lines_view}
-use Rattle.texts.specs.Told.{Told}
+use Rattle.trouble.specs.Told.{Told}
 use Rattle.making.proofs.cuts.limits_in.Goals as goal
 
 pub returns-in-None : goal.returns-in-None

@@ -1,7 +1,7 @@
 use Rattle.std.proofs.Common.{vec_items, sym, ap, ◌∙◌}
 use Rattle.std.specs.Str.Iter.{split_text, split_has_more, split_pattern}
 use Rattle.statements.specs.Views.{lines_view}
-use Rattle.texts.proofs.Chains.{stops}
+use Rattle.trouble.proofs.Chains.{stops}
 use Rattle.making.proofs.Rows.{no_line_yet, no_line, one_more, no_more}
 use Rattle.making.proofs.cuts.lines_in.Goals as goal
 

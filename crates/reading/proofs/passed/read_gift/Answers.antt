@@ -6,7 +6,7 @@ use Rattle.reading.specs.Forms.{gift_said}
 use Rattle.statements.specs.Said.{a_thing}
 use Rattle.reading.specs.Views.{gift_view}
 use Rattle.texts.proofs.Steps.{so, no, last_so, last_no}
-use Rattle.texts.proofs.Chains.{stops}
+use Rattle.trouble.proofs.Chains.{stops}
 use Rattle.reading.proofs.passed.read_gift.Goals as goal
 
 pub returns-in_err-name : goal.returns-in_err-name

@@ -3,7 +3,7 @@ use Rattle.texts.specs.Cuts.{words_of}
 use Rattle.texts.proofs.Steps.{so, no, last_so, last_no}
 use Rattle.statements.specs.Said.{given}
 use Rattle.statements.specs.Views.{stated, gifted}
-use Rattle.texts.proofs.Chains.{stops, hands_on}
+use Rattle.trouble.proofs.Chains.{stops, hands_on}
 use Rattle.reading.specs.Forms.{gift_said, give_said}
 use Rattle.reading.specs.Views.{gift_view}
 use Rattle.reading.proofs.passed.read_give.Goals as goal

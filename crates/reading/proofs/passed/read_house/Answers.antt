@@ -2,7 +2,7 @@ use Rattle.std.proofs.Common.{Ok, ◌∙◌}
 use Rattle.texts.proofs.Steps.{last_so, last_no}
 use Rattle.statements.specs.Said.{house_of}
 use Rattle.statements.specs.Views.{stated}
-use Rattle.texts.proofs.Chains.{stops}
+use Rattle.trouble.proofs.Chains.{stops}
 use Rattle.reading.specs.Forms.{house_said}
 use Rattle.reading.proofs.passed.read_house.Goals as goal
 

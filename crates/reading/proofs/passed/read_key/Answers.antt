@@ -2,7 +2,7 @@ use Rattle.std.proofs.Common.{Ok, ◌∙◌}
 use Rattle.texts.proofs.Steps.{so, no, last_so, last_no}
 use Rattle.statements.specs.Said.{key_to}
 use Rattle.statements.specs.Views.{stated}
-use Rattle.texts.proofs.Chains.{stops}
+use Rattle.trouble.proofs.Chains.{stops}
 use Rattle.reading.specs.Forms.{key_said}
 use Rattle.reading.proofs.passed.read_key.Goals as goal
 

@@ -4,7 +4,7 @@ use Rattle.reading.specs.Forms.{show_said}
 use Rattle.statements.specs.Said.{shown}
 use Rattle.statements.specs.Views.{stated, asked_view}
 use Rattle.texts.proofs.Steps.{so, no, last_so, last_no}
-use Rattle.texts.proofs.Chains.{stops, hands_on}
+use Rattle.trouble.proofs.Chains.{stops, hands_on}
 use Rattle.reading.proofs.Names.{same_ok}
 use Rattle.reading.proofs.wished.read_show.Goals as goal
 

@@ -3,7 +3,7 @@ use Rattle.words.specs.Wishes.{wish_in}
 use Rattle.texts.proofs.Steps.{so, no, last_so, last_no}
 use Rattle.statements.specs.Said.{wish_of}
 use Rattle.statements.specs.Views.{stated, asked_view}
-use Rattle.texts.proofs.Chains.{stops, hands_on}
+use Rattle.trouble.proofs.Chains.{stops, hands_on}
 use Rattle.reading.specs.Forms.{wish_said}
 use Rattle.reading.proofs.wished.read_wish.Goals as goal
 

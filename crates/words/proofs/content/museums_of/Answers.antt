@@ -24,4 +24,4 @@ loop-part-preserved c =
 pub returns : goal.returns
 returns c =
     let ms = no_more c.loop-part.invariant (sym c.in-None.ensures.steps.0) in
-    or_told (λ m. items m.list) NoSuchMuseum c.new.result _ c.ok_or.ensures.value (list_told c.args.word.now _ ms c.new.result (simp unary_clauses at c.new.ensures))
+    or_told (λ m. items m) NoSuchMuseum c.new.result _ c.ok_or.ensures.value (list_told c.args.word.now _ ms c.new.result (simp unary_clauses at c.new.ensures))

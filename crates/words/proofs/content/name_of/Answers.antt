@@ -10,4 +10,4 @@ returns-then-letters-gt32 c = name_long c.args.word.now (omega arith)
 
 pub returns : goal.returns
 returns c =
-    or_told (λ n. items n.letters) BadLetter c.new.result _ c.ok_or.ensures.value (name_told c.args.word.now (omega arith) c.new.result (rw c.as_bytes-letters.ensures.value at c.new.ensures))
+    or_told (λ n. items n) BadLetter c.new.result _ c.ok_or.ensures.value (name_told c.args.word.now (omega arith) c.new.result (rw c.as_bytes-letters.ensures.value at c.new.ensures))

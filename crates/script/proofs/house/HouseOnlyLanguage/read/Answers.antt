@@ -2,7 +2,7 @@ use Rattle.std.proofs.Common.{Some, ap, ◌∙◌}
 use Rattle.std.specs.Option.{option_map}
 use Rattle.std.specs.Result.{result_map_both}
 use Rattle.texts.specs.Cuts.{words_of}
-use Rattle.texts.proofs.Chains.{hands_on}
+use Rattle.trouble.proofs.Chains.{hands_on}
 use Rattle.script.specs.Rules.{house_sense}
 use Rattle.script.specs.Views.{stated}
 use Rattle.script.proofs.Senses.{nothing, other, house}

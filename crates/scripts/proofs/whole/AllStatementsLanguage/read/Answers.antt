@@ -1,7 +1,7 @@
 use Rattle.std.proofs.Common.{ap, rules}
 use Rattle.std.specs.Option.{option_map}
 use Rattle.statements.specs.Views.{stated}
-use Rattle.texts.proofs.Chains.{hands_on}
+use Rattle.trouble.proofs.Chains.{hands_on}
 use Rattle.scripts.specs.Rules.{alone, placed}
 use Rattle.scripts.proofs.Placing.{renamed, out_of_place, in_place}
 use Rattle.scripts.proofs.whole.AllStatementsLanguage.read.Goals as goal

@@ -1,8 +1,8 @@
 -- What `?` hands on, where memory may be wanting. Assumes nothing.
 use Rattle.std.proofs.Common.{◌≡◌, IsErrAnd, Ok, Err, Result, sym, subst}
-use Rattle.texts.specs.declared.trouble.Trouble.{Trouble}
-use Rattle.texts.specs.declared.trouble.Trouble.TheVariants.{Unreadable, NoMemory}
-use Rattle.texts.specs.Told.{Told}
+use Rattle.trouble.specs.declared.Trouble.{Trouble}
+use Rattle.trouble.specs.declared.Trouble.TheVariants.{Unreadable, NoMemory}
+use Rattle.trouble.specs.Told.{Told}
 
 module _ {X Y C : Type 0} (view : X → Y) (r : Result X (Trouble C)) {s : Result Y C} where
   -- at a cause

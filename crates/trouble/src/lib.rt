@@ -1,24 +1,17 @@
-// Why something that was typed could not be read.
-ghost use Rattle.std.specs.Prelude.{◌≡◌};
-ghost use Rattle.texts.specs.declared.trouble.Trouble.TheVariants.{Unreadable, NoMemory};
+// Why something could not be read, where memory may be wanting.
+#![tactic(auto)]
 
-use crate::Cause;
+ghost use Rattle.std.specs.Prelude.{◌≡◌};
+ghost use Rattle.trouble.specs.declared.Trouble.TheVariants.{NoMemory};
+
 use std::alloc::{AllocError, AllocFailed};
 
 /// A cause, or want of memory.
-// One impl for every cause would overlap with those of the allocator's errors, so that each kind of cause has its own.
-#[derive(Clone, Copy)]
+// One impl for every cause would overlap with those of the allocator's errors, so that each kind of cause has its own, beside it.
+#[derive(Clone, Copy, PartialEq, Eq, Debug)]
 pub enum Trouble<C> {
     Unreadable(C),
     NoMemory,
-}
-
-impl From<Cause> for Trouble<Cause> {
-    ghost from_gives = { λ c t. t ≡ Unreadable c };
-
-    fn from(cause: Cause) -> Trouble<Cause> {
-        Trouble::Unreadable(cause)
-    }
 }
 
 impl<C> From<AllocError> for Trouble<C> {
