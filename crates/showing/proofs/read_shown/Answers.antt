@@ -1,4 +1,4 @@
-use Rattle.std.proofs.Common.{◌≡◌, true, false, Bool, [], ◌∷◌, map, length, None, Ok, Err, vec_items, Result, Vec, sym, refl, ap, ◌∙◌}
+use Rattle.std.proofs.Common.{◌≡◌, true, false, Bool, [], ◌∷◌, map, length, None, Ok, Err, vec_items, Vec, sym, refl, ap, ◌∙◌}
 use Rattle.std.specs.declared.alloc.Global.{Global}
 use Rattle.std.specs.Bool.{then_some}
 use Rattle.std.specs.Option.{option_map}
@@ -7,7 +7,6 @@ use Rattle.std.proofs.lemmas.Bool.Decides.{Decides-eqb}
 use Rattle.std.proofs.lemmas.List.{nil_from_length}
 use Rattle.std.proofs.lemmas.Option.{MatchOption-at_some}
 use Rattle.std.proofs.lemmas.Slice.Eq.{strip_prefix_is}
-use Rattle.narrow.specs.Term.{Bytes}
 use Rattle.narrow.proofs.Rows.{contradiction, when_true_is}
 use Rattle.parts.specs.Limits.{WishView, in_range}
 use Rattle.trouble.proofs.Chains.{stops, hands_on}
@@ -16,7 +15,7 @@ use Rattle.tickets.specs.declared.TiedYes.{TiedYes}
 use Rattle.tickets.specs.Views.{ticket_view, tied_view}
 use Rattle.codec.specs.Things.{ticket}
 use Rattle.wishes.specs.Views.{raw_view, wish_view, wish_read}
-use Rattle.showing.specs.Showing.{shown_kind, shown_of}
+use Rattle.showing.specs.Showing.{shown_kind}
 use Rattle.showing.specs.Views.{shown_view}
 use Rattle.showing.proofs.Shows.{not_read, more_left, out_of_range, all_read, other_kind, no_wish, no_ticket, no_yeses, parts_read}
 use Rattle.showing.proofs.read_shown.Goals as goal
