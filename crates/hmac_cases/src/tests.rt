@@ -5,29 +5,16 @@ use super::tables::{DIGESTS, MACS};
 use hmac::{Key, Mac};
 use hmac4::{Request, mac_four};
 use sha256::digest;
+use std::array;
 use std::test::Fail;
 
-fn part(d: [u8; 32], at: usize) -> u64
-    requires { at ≤ 24 }
-{
-    u64::from_be_bytes([
-        d[at],
-        d[at + 1],
-        d[at + 2],
-        d[at + 3],
-        d[at + 4],
-        d[at + 5],
-        d[at + 6],
-        d[at + 7],
-    ])
-}
-
 fn parts(d: [u8; 32]) -> [u64; 4] {
-    [part(d, 0), part(d, 8), part(d, 16), part(d, 24)]
+    let (eights, _) = d.as_chunks::<8>();
+    array::from_fn(|i| u64::from_be_bytes(eights[i]))
 }
 
 fn folded(d: [u8; 32]) -> u64 {
-    part(d, 0) ^ part(d, 8) ^ part(d, 16) ^ part(d, 24)
+    parts(d).iter().fold(0, |all, part| all ^ *part)
 }
 
 // A key of at most 32 bytes, with zeros after it. HMAC takes it as it would the shorter key.
@@ -36,7 +23,7 @@ fn key(short: &[u8]) -> Mac
 {
     let mut bytes = [0; 32];
     let end = short.len();
-    bytes[0..end].copy_from_slice(short);
+    bytes[..end].copy_from_slice(short);
     Mac::new(bytes)
 }
 
@@ -116,27 +103,18 @@ fn rfc_4231(rt: HostRuntime) {
     );
     assert_eq!(rt; parts(key(&[0xaa; 20]).mac(&[0xdd; 50]).bytes()), three);
     assert_eq!(rt; parts(key(&counted).mac(&[0xcd; 50]).bytes()), four);
-    assert_eq!(rt; part(five, 0), 0xa3b6167473100ee0);
-    assert_eq!(rt; part(five, 8), 0x6e0c796c2955552b);
+    let [first, second, _, _] = parts(five);
+    assert_eq!(rt; first, 0xa3b6167473100ee0);
+    assert_eq!(rt; second, 0x6e0c796c2955552b);
 }
 
 fn message() -> [u8; 130] {
-    let mut m = [0; 130];
-    let mut next: u8 = 1;
-    for i in 0..130 {
-        m[i] = next;
-        next = next.wrapping_add(7);
-    }
-    m
+    array::from_fn(|i| ((7 * i + 1) % 256) as u8)
 }
 
 // The key 0, 1, .. 31.
 fn counted_key() -> Mac {
-    let mut bytes = [0; 32];
-    for i in 0..32 {
-        bytes[i] = i as u8;
-    }
-    Mac::new(bytes)
+    Mac::new(array::from_fn(|i| i as u8))
 }
 
 // Every length from 0 to 130, against OpenSSL's answers (vectors.py), by one-shot calls and by a kept key.
