@@ -29,8 +29,7 @@ impl Mac {
     pub fn bytes(self) -> [u8; 32]
         ensures { result ≡ self.bytes }
     {
-        let Mac { bytes } = self;
-        bytes
+        self.bytes
     }
 
     // The MAC of a message under this one.
@@ -44,9 +43,8 @@ impl Mac {
     pub fn tie(self, other: Mac) -> Mac
         ensures { result.bytes ≡ hmac_of self.bytes (3 ∷ other.bytes) }
     {
-        let Mac { bytes } = other;
         let mut message = [3; 33];
-        message[1..33].copy_from_slice(&bytes);
+        message[1..33].copy_from_slice(&other.bytes);
         self.mac(&message)
     }
 
@@ -55,11 +53,8 @@ impl Mac {
     pub fn same(self, other: Mac) -> bool
         ensures { Decides result (self.bytes ≡ other.bytes) }
     {
-        self.bytes
-            .iter()
-            .zip(&other.bytes)
-            .fold(0, |differing, (a, b)| differing | (*a ^ *b))
-            == 0
+        let pairs = self.bytes.iter().zip(&other.bytes);
+        pairs.fold(0, |differing, (a, b)| differing | (*a ^ *b)) == 0
     }
 }
 
@@ -92,9 +87,7 @@ impl Key {
         ensures value { result.bytes ≡ mac_from self.inner self.outer message.now }
         ensures keyed { (key : List ℕ) → Keyed key self → result.bytes ≡ hmac_of key message.now }
     {
-        let Key { inner, outer } = self;
-        let bytes = midstates::mac_from(inner, outer, message);
-        Mac::new(bytes)
+        Mac::new(midstates::mac_from(self.inner, self.outer, message))
     }
 }
 

@@ -42,7 +42,8 @@ pub fn key_block<W: Word>(key: [W; 8], pad: u32) -> [W; 16]
     ]
 }
 
-// The block of the outer hash, from the words of a digest: 32 bytes and their padding.
+// The block of the outer hash, from the words of a digest: 32 bytes and their padding. Written out it is no longer than filled in
+// place by place, and shows the block whole.
 pub fn outer_block<W: Word>(v: [W; 8]) -> [W; 16]
     ensures { (l : ℕ) → l < W.lanes → map (W.lane l) result ≡ map (W.lane l) v ++ 0x80000000 ∷ 0 ∷ 0 ∷ 0 ∷ 0 ∷ 0 ∷ 0 ∷ 768 ∷ [] }
 {

@@ -28,31 +28,29 @@ pub extern "C" fn hmac_c_mac(key: &[u8], message: &[u8], out: &mut [u8]) -> bool
     ensures value { MatchBool result (out.new ≡ hmac_of key.now message.now) (out.new ≡ out.old) }
     ensures fills { Decides result ((length key.now ≡ 32) × (length out.old ≡ 32)) }
 {
-    if key.len() != 32 || out.len() != 32 {
+    let Ok(key) = <[u8; 32]>::try_from(key) else {
+        return false;
+    };
+    if out.len() != 32 {
         return false;
     }
-    let mut bytes = [0; 32];
-    bytes.copy_from_slice(key);
-    let mac = Mac::new(bytes).mac(message);
-    out.copy_from_slice(&mac.bytes());
+    out.copy_from_slice(&Mac::new(key).mac(message).bytes());
     true
 }
 
-// A message under the key at place i of a row of keys.
-fn request<'a>(keys: &[u8], i: usize, message: &'a [u8]) -> Request<'a>
-    requires { 32 * i + 32 ≤ length keys.now }
-    ensures key { result.key.bytes ≡ take 32 (drop (32 * i) keys.now) }
+// A message under a key, from its bytes.
+fn request<'a>(key: &[u8; 32], message: &'a [u8]) -> Request<'a>
+    ensures key { result.key.bytes ≡ key.now }
     ensures message { result.message.now ≡ message.now }
 {
-    let mut bytes = [0; 32];
-    bytes.copy_from_slice(&keys[32 * i..32 * i + 32]);
     Request {
-        key: Mac::new(bytes),
+        key: Mac::new(*key),
         message,
     }
 }
 
-// The MACs of four messages, one after the other; the four keys and `out` have 128 bytes.
+// The MACs of four messages, one after the other; the four keys and `out` have 128 bytes. C has no slice of slices, so that the
+// messages are four parameters.
 #[unsafe(no_mangle)]
 pub extern "C" fn hmac_c_mac_four(
     keys: &[u8],
@@ -65,15 +63,13 @@ pub extern "C" fn hmac_c_mac_four(
     ensures value { MatchBool result (out.new ≡ hmac_of (take 32 keys.now) a.now ++ (hmac_of (take 32 (drop 32 keys.now)) b.now ++ (hmac_of (take 32 (drop 64 keys.now)) c.now ++ hmac_of (take 32 (drop 96 keys.now)) d.now))) (out.new ≡ out.old) }
     ensures fills { Decides result ((length keys.now ≡ 128) × (length out.old ≡ 128)) }
 {
-    if keys.len() != 128 || out.len() != 128 {
+    let ([p, q, r, s], []) = keys.as_chunks::<32>() else {
+        return false;
+    };
+    if out.len() != 128 {
         return false;
     }
-    let macs = mac_four([
-        request(keys, 0, a),
-        request(keys, 1, b),
-        request(keys, 2, c),
-        request(keys, 3, d),
-    ]);
+    let macs = mac_four([request(p, a), request(q, b), request(r, c), request(s, d)]);
     out.copy_from_slice(macs.map(Mac::bytes).as_flattened());
     true
 }

@@ -1,10 +1,11 @@
 -- The hash value over blocks: where a message may be cut, and its padding.
 -- Assumes nothing.
-use Rattle.std.proofs.Common.{inl, inr, ◌≡◌, ℕ, zero, suc, ◌+◌, ◌-◌, ◌*◌, ◌/◌, ◌%◌, ◌^◌, ◌<◌, ◌≤◌, List, [], ◌∷◌, ◌++◌, length, get_or, take, drop, set, replicate, sym, refl, ap, ◌∙◌, suc-add, zero-add, add-one, arith}
+use Rattle.std.proofs.Common.{inl, inr, ◌≡◌, ℕ, zero, suc, ◌+◌, ◌-◌, ◌*◌, ◌/◌, ◌%◌, ◌^◌, ◌<◌, ◌≤◌, List, [], ◌∷◌, ◌++◌, length, get_or, take, drop, set, replicate, sym, refl, ap, ◌∙◌, suc-add, zero-add, add-zero, add-one, mul-zero, mul-suc, add_comm, lit<, arith}
 use lib.Bits.{bit_and}
+use Rattle.std.specs.Int.{w32, from_be_bytes}
 use Rattle.std.proofs.lemmas.Bool.{cases_lt}
 use Rattle.std.proofs.lemmas.Nat.{and_mask, field_of, shr-shr}
-use Rattle.std.proofs.lemmas.List.{length-append, length-take-le, length-drop, get_or_append_left, get_or-append_right, take-append-le, drop-append-le, drop_at, drop-drop, set_at, drop-replicate, take-append-drop, take_all}
+use Rattle.std.proofs.lemmas.List.{length-append, length-take-le, length-drop, get_or_append_left, get_or-append_right, take-append-le, drop-append-le, drop_at, drop-drop, get_or-take, get_or-drop, set_at, drop-replicate, take-append-drop, take_all}
 use Rattle.std.specs.List.{fold}
 use Rattle.std.specs.Simd.{first_chunks}
 use Rattle.sha256.specs.Sha256.{word, words, compressed, absorbed, eight}
@@ -104,6 +105,25 @@ absorbed_chunks (suc n) message h l =
     let back : absorbed (n + 1) (x ++ y) h ≡ absorbed n y (absorbed 1 x h) = absorbed_back n 1 x y h nx in
     let one : absorbed 1 x h ≡ compressed h (words 16 x) = ap (λ z. compressed h (words 16 z)) (take_all 64 x (omega arith)) in
     more ∙ sym (rw (add-one, take-append-drop, one) at back)
+
+-- a chunk of a list that is cut by n
+pub chunk_at : (n k i : ℕ) (b : List ℕ) (d : List ℕ) → i < k → get_or (first_chunks n k b) i d ≡ take n (drop (n * i) b)
+chunk_at n zero i b d h = absurd (omega arith)
+chunk_at n (suc k) zero b d h = rw (mul-zero n) refl
+chunk_at n (suc k) (suc i) b d h =
+    let e : n * suc i ≡ n + n * i = mul-suc n i ∙ add_comm (n * i) n in
+    rw (e, ← drop-drop (n * i) n b) (chunk_at n k i (drop n b) d (omega arith))
+
+-- a word from the chunk of its four bytes
+pub word_chunk : (i k : ℕ) (b d : List ℕ) → i < k → from_be_bytes w32 (get_or (first_chunks 4 k b) i d) ≡ word i b
+unfolding word
+word_chunk i k b d h =
+    let x : List ℕ = take 4 (drop (4 * i) b) in
+    let at : (j : ℕ) → j < 4 → get_or x j 0 ≡ get_or b (4 * i + j) 0 = λ j l. get_or-take 4 (drop (4 * i) b) j 0 l ∙ get_or-drop (4 * i) b j 0 in
+    let z : 4 * i + 0 ≡ 4 * i = add-zero (4 * i) in
+    let a = rw z at (at 0 (lit< tt)) in
+    let e : from_be_bytes w32 x ≡ word i b = cc (a, at 1 (lit< tt), at 2 (lit< tt), at 3 (lit< tt)) in
+    rw (chunk_at 4 k i b d h) e
 
 -- ---- the end of a message
 pub opened_is : (rest x : List ℕ) → x ≡ rest → length rest < 64 → set (x ++ drop (length rest) (replicate 64 0)) (length rest) 128 ≡ rest ++ 128 ∷ replicate (63 - length rest) 0

@@ -1,27 +1,19 @@
 // Messages as blocks: words, the hash value over whole blocks, and the padding of the last ones.
 ghost use Rattle.std.specs.Prelude.{◌≡◌, ◌+◌, ◌-◌, ◌*◌, ◌/◌, ◌%◌, ◌<◌, ◌≤◌, ◌∷◌, ◌++◌, length, take, replicate};
 ghost use Rattle.sha256.specs.Blocks.{finished};
-ghost use Rattle.sha256.specs.Sha256.{word, words, compressed, eight};
+ghost use Rattle.sha256.specs.Sha256.{words, compressed, eight};
 ghost use Rattle.std.specs.List.{fold};
 
 use super::compress::compress;
 use std::array;
 
-// The word at index i, the high byte first.
-fn word(b: &[u8], i: usize) -> u32
-    requires { 4 * i + 4 ≤ length b.now }
-    ensures { result ≡ word i b.now }
-{
-    let at = 4 * i;
-    u32::from_be_bytes([b[at], b[at + 1], b[at + 2], b[at + 3]])
-}
-
-// The first N words.
+// The first N words, each with its high byte first.
 pub(crate) fn words<const N: usize>(b: &[u8]) -> [u32; N]
     requires { 4 * N ≤ length b.now }
     ensures { result ≡ words N b.now }
 {
-    array::from_fn(|i| word(b, i))
+    let (fours, _) = b.as_chunks::<4>();
+    array::from_fn(|i| u32::from_be_bytes(fours[i]))
 }
 
 // The hash value after some blocks.

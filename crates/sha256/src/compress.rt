@@ -1,8 +1,8 @@
 // The compression of SHA-256 (FIPS 180-4, section 6.2.2), for every kind of word: in each lane it is that of one block.
 // Rounds and schedule go on by sixteen, and are written out four by four: in a loop the variables would change places in each
 // turn, which takes a tenth to a fifth of the speed.
-ghost use Rattle.std.specs.Prelude.{◌≡◌, ℕ, ◌+◌, ◌<◌, ◌≤◌, List, map, length};
-ghost use Rattle.sha256.specs.Sha256.{◌⊞◌, Ch, Maj, Σ₀, Σ₁, σ₀, σ₁, round, compressed};
+ghost use Rattle.std.specs.Prelude.{◌≡◌, ℕ, ◌+◌, ◌<◌, ◌≤◌, List, map, length, bit_xor};
+ghost use Rattle.sha256.specs.Sha256.{◌⊞◌, Ch, Maj, rotr, shr, round, compressed};
 ghost use Rattle.sha256.specs.Stages.{advanced, window, Underway};
 ghost use Rattle.std.specs.Simd.Lanes.{zip2};
 
@@ -21,36 +21,24 @@ fn maj<W: Word>(x: W, y: W, z: W) -> W
     x.and(y).xor(x.and(z)).xor(y.and(z))
 }
 
-fn big_sigma0<W: Word>(x: W) -> W
-    ensures { (l : ℕ) → l < W.lanes → W.lane l result ≡ Σ₀ (W.lane l x) }
+// Σ₀ and Σ₁, by the counts of their rotations.
+fn big_sigma<W: Word, const A: u32, const B: u32, const C: u32>(x: W) -> W
+    requires { (0 < A) × (A < 32) × (0 < B) × (B < 32) × (0 < C) × (C < 32) }
+    ensures { (l : ℕ) → l < W.lanes → W.lane l result ≡ bit_xor (bit_xor (rotr A (W.lane l x)) (rotr B (W.lane l x))) (rotr C (W.lane l x)) }
 {
-    x.rotate_right(2)
-        .xor(x.rotate_right(13))
-        .xor(x.rotate_right(22))
+    x.rotate_right(A)
+        .xor(x.rotate_right(B))
+        .xor(x.rotate_right(C))
 }
 
-fn big_sigma1<W: Word>(x: W) -> W
-    ensures { (l : ℕ) → l < W.lanes → W.lane l result ≡ Σ₁ (W.lane l x) }
+// σ₀ and σ₁, by the counts of their rotations and of their shift.
+fn sigma<W: Word, const A: u32, const B: u32, const C: u32>(x: W) -> W
+    requires { (0 < A) × (A < 32) × (0 < B) × (B < 32) × (C < 32) }
+    ensures { (l : ℕ) → l < W.lanes → W.lane l result ≡ bit_xor (bit_xor (rotr A (W.lane l x)) (rotr B (W.lane l x))) (shr C (W.lane l x)) }
 {
-    x.rotate_right(6)
-        .xor(x.rotate_right(11))
-        .xor(x.rotate_right(25))
-}
-
-fn sigma0<W: Word>(x: W) -> W
-    ensures { (l : ℕ) → l < W.lanes → W.lane l result ≡ σ₀ (W.lane l x) }
-{
-    x.rotate_right(7)
-        .xor(x.rotate_right(18))
-        .xor(x.shift_right(3))
-}
-
-fn sigma1<W: Word>(x: W) -> W
-    ensures { (l : ℕ) → l < W.lanes → W.lane l result ≡ σ₁ (W.lane l x) }
-{
-    x.rotate_right(17)
-        .xor(x.rotate_right(19))
-        .xor(x.shift_right(10))
+    x.rotate_right(A)
+        .xor(x.rotate_right(B))
+        .xor(x.shift_right(C))
 }
 
 // One round over the working variables a to h.
@@ -59,11 +47,11 @@ fn round<W: Word>(v: [W; 8], k: u32, w: W) -> [W; 8]
 {
     let [a, b, c, d, e, f, g, h] = v;
     let t1 = h
-        .plus(big_sigma1(e))
+        .plus(big_sigma::<W, 6, 11, 25>(e))
         .plus(ch(e, f, g))
         .plus(W::splat(k))
         .plus(w);
-    let t2 = big_sigma0(a).plus(maj(a, b, c));
+    let t2 = big_sigma::<W, 2, 13, 22>(a).plus(maj(a, b, c));
     [t1.plus(t2), a, b, c, d.plus(t1), e, f, g]
 }
 
@@ -89,7 +77,10 @@ fn advance<W: Word>(w: [W; 16]) -> [W; 16]
         w14,
         w15,
     ] = w;
-    let next = sigma1(w14).plus(w9).plus(sigma0(w1)).plus(w0);
+    let next = sigma::<W, 17, 19, 10>(w14)
+        .plus(w9)
+        .plus(sigma::<W, 7, 18, 3>(w1))
+        .plus(w0);
     [
         w1, w2, w3, w4, w5, w6, w7, w8, w9, w10, w11, w12, w13, w14, w15, next,
     ]
