@@ -42,6 +42,7 @@ fn write_counted(kind: Kind, items: &[u8], out: &mut [u8]) -> Option<usize>
     requires { length items.now ≤ 32 }
     ensures { WritesFront (kind_number kind ∷ counted_bytes items.now) out.old out.new result }
 {
+    // That the length fits is proved: by `try_from` there would be a branch that can't be met.
     write_line(kind, &[items.len() as u8], items, out)
 }
 

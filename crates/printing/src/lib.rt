@@ -5,7 +5,7 @@ ghost use Rattle.parts.specs.Items.{items};
 ghost use Rattle.lines.specs.Views.{limit_view, line_view};
 ghost use Rattle.wishes.specs.Views.{wish_view};
 ghost use Rattle.std.specs.Fmt.{WritesOnOk};
-ghost use Rattle.std.specs.Prelude.{◌≡◌, Some, MatchResult};
+ghost use Rattle.std.specs.Prelude.{◌≡◌, Some};
 ghost use Rattle.printing.specs.Printed.{list_words, limit_words, line_words, wish_words};
 
 use lines::{Limit, Line, Name, Wish};
@@ -39,7 +39,7 @@ impl fmt::Display for Words<Limit> {
             Limit::Days(days) => write!(f, "days {}-{}", days.from, days.to),
             Limit::Minutes(minutes) => write!(f, "minutes {}-{}", minutes.from, minutes.to),
             Limit::Persons(most) => write!(f, "persons {most}"),
-            Limit::Name(name) => match text_of(&name)? {
+            Limit::Name(name) => match text_of(&name) {
                 "" => f.write_str("name"),
                 text => write!(f, "name {text}"),
             },
@@ -57,7 +57,7 @@ impl fmt::Display for Words<Wish> {
             "museum {} day {} minute {} persons {}",
             wish.museum, wish.day, wish.minute, wish.persons
         )?;
-        match text_of(&wish.name)? {
+        match text_of(&wish.name) {
             "" => Ok(()),
             text => write!(f, " name {text}"),
         }
@@ -77,9 +77,9 @@ fn write_list<W: fmt::Write>(numbers: &[u8], f: &mut fmt::Formatter<W>) -> fmt::
     Ok(())
 }
 
-// Its letters as text. They are ASCII, so there is no `Err`.
-fn text_of(name: &Name) -> Result<&str, fmt::Error>
-    ensures { MatchResult result (λ s. s.now ≡ items name.now) (λ _. ⊥) }
+// Its letters as text: they are ASCII, so they are UTF-8.
+fn text_of(name: &Name) -> &str
+    ensures { result.now ≡ items name.now }
 {
-    from_utf8(name.as_slice()).map_err(|_| fmt::Error)
+    from_utf8(name.as_slice()).unwrap()
 }

@@ -1,5 +1,5 @@
 -- Reading a row, step by step. Assumes nothing.
-use Rattle.std.proofs.Common.{◌≡◌, ℕ, zero, suc, ◌-◌, ◌<◌, ◌≤◌, ltb, List, [], ◌∷◌, ◌++◌, length, take, drop, Some, None, Ok, Err, Option, Result, sym, refl, ap, ◌∙◌, subst, arith, length-append, MatchOption, MatchResult}
+use Rattle.std.proofs.Common.{◌≡◌, ℕ, suc, ◌-◌, ◌<◌, ◌≤◌, ltb, List, [], ◌∷◌, ◌++◌, length, take, drop, Some, None, Ok, Err, Option, Result, sym, refl, ap, ◌∙◌, subst, arith, length-append, MatchOption, IfSome, MatchResult}
 use Rattle.std.proofs.lemmas.List.{take_at, drop_at}
 use Rattle.std.proofs.lemmas.Option.{MatchOption-at_none}
 use Rattle.std.proofs.lemmas.Bool.{cond-true, cond-false, lt-ltb, le-ltb}
@@ -16,6 +16,11 @@ use Rattle.rows.specs.Rowing.{next, part_at, lines_from, row_at}
 pub some_weaker : {A : Type 0} (o : Option A) {P P' : Type 0} {Q Q' : A → Type 0} → MatchOption o P Q → (P → P') → ((x : A) → Q x → Q' x) → MatchOption o P' Q'
 some_weaker None h f g = f h
 some_weaker (Some x) h f g = g x h
+
+-- a clause on an option, and one on what is there, as one
+pub some_both : {A : Type 0} (o : Option A) (P : Type 0) (Q R : A → Type 0) → MatchOption o P Q → IfSome o R → MatchOption o P (λ x. Q x × R x)
+some_both None P Q R h k = h
+some_both (Some x) P Q R h k = (h, k)
 
 -- nothing was there, and a fault stands in its place
 pub absent : {A : Type 0} (o : Option A) (f g : Fault) → Err g ≡ ok_or o f → (o ≡ None) × (f ≡ g)
@@ -66,11 +71,7 @@ module _ (p : Place) (bs : Bytes) (n : ℕ) (rest : Bytes) (e : bs ≡ n ∷ res
 module _ (p : Place) (n : ℕ) (ls : List Bytes) (bs : Bytes) (left : 0 < n) where
   one_more : lines_from p n ls bs ≡ next (part_at bs) (λ a. next (pushed p ls a.0) (λ more. lines_from p (n - 1) more a.1))
   unfolding lines_from
-  one_more = step n left
-    where
-      step : (k : ℕ) → 0 < k → lines_from p k ls bs ≡ next (part_at bs) (λ a. next (pushed p ls a.0) (λ more. lines_from p (k - 1) more a.1))
-      step zero h = absurd (omega arith)
-      step (suc k) h = let same : suc k - 1 ≡ k = omega arith in rw same
+  one_more = let one : n ≡ suc (n - 1) = omega arith in ap (λ (k : ℕ). lines_from p k ls bs) one
 
   pub lines_short : part_at bs ≡ Err Shape → lines_from p n ls bs ≡ Err Shape
   lines_short e = one_more ∙ ap (λ (r : Result (Bytes × Bytes) Fault). next r (λ a. next (pushed p ls a.0) (λ more. lines_from p (n - 1) more a.1))) e

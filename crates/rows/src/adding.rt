@@ -1,5 +1,5 @@
-// Making a row longer, and its lines. Numbers are cast by `as`, as it is proved that nothing is lost: a conversion that may fail would add
-// a refusal that can't be.
+// Making a row longer, and its lines. Lengths are cast down by `as`, as it is proved that they fit: `try_from` would add a refusal that
+// can't be. Marks are cast up by it too: with `usize::from`, each bound on a mark takes one step more in its proof.
 ghost use Rattle.std.specs.Prelude.{◌≡◌, ℕ, ◌+◌, ◌<◌, ◌≤◌, List, [], ◌∷◌, ◌++◌, length, drop, MatchOption, slice_index_or};
 ghost use Rattle.rows.specs.Due.{ChangedAs};
 ghost use Rattle.rows.specs.Row.{rows};

@@ -1,5 +1,6 @@
 // Reading from the front of a slice.
-ghost use Rattle.std.specs.Prelude.{◌≡◌, ◌<◌, List, [], ◌∷◌, ◌++◌, length, MatchOption, ◌==◌};
+ghost use Rattle.rows.specs.Due.{TakesFront};
+ghost use Rattle.std.specs.Prelude.{◌≡◌, [], ◌∷◌, length, IfSome, ◌==◌};
 
 use numbers::Number;
 
@@ -24,9 +25,7 @@ impl<'a> Reader<'a> {
 
     // An element needs no trait: the slice's own method takes it.
     pub fn byte(&mut self) -> Option<u8>
-        ensures { MatchOption result
-            ((length self.old.rest.now < 1) × (self.new.rest.now ≡ self.old.rest.now))
-            (λ b. self.old.rest.now ≡ b ∷ self.new.rest.now) }
+        ensures { TakesFront 1 (λ b. b ∷ []) self.old.rest.now result self.new.rest.now }
     {
         let (byte, rest) = self.rest.split_first()?;
         self.rest = rest;
@@ -34,9 +33,7 @@ impl<'a> Reader<'a> {
     }
 
     pub fn number<T: Number<N>, const N: usize>(&mut self) -> Option<T>
-        ensures { MatchOption result
-            ((length self.old.rest.now < N) × (self.new.rest.now ≡ self.old.rest.now))
-            (λ n. self.old.rest.now ≡ T.bytes_of n ++ self.new.rest.now) }
+        ensures { TakesFront N T.bytes_of self.old.rest.now result self.new.rest.now }
     {
         let (number, rest) = numbers::read(self.rest)?;
         self.rest = rest;
@@ -44,9 +41,8 @@ impl<'a> Reader<'a> {
     }
 
     pub fn part(&mut self, size: usize) -> Option<&'a [u8]>
-        ensures { MatchOption result
-            ((length self.old.rest.now < size) × (self.new.rest.now ≡ self.old.rest.now))
-            (λ p. (length p.now ≡ size) × (self.old.rest.now ≡ p.now ++ self.new.rest.now)) }
+        ensures front { TakesFront size (λ p. p.now) self.old.rest.now result self.new.rest.now }
+        ensures size { IfSome result (λ p. length p.now ≡ size) }
     {
         let (part, rest) = self.rest.split_at_checked(size)?;
         self.rest = rest;

@@ -18,7 +18,7 @@ impl<'a> Reader<'a> {
             (λ p. part_at self.old.rest.now ≡ Ok (p.now, self.new.rest.now)) }
     {
         let size = self.byte()?;
-        self.part(size as usize)
+        self.part(usize::from(size))
     }
 
     /// A row of lines: a count, and each line behind its length.
@@ -27,7 +27,7 @@ impl<'a> Reader<'a> {
         ensures place { IfOk result (λ ls. ls.place ≡ place) }
     {
         let count = self.byte().ok_or(Fault::Shape)?;
-        if count as usize > most_lines(place) {
+        if usize::from(count) > most_lines(place) {
             return Err(Fault::TooMany);
         }
         let mut lines = Lines::new(place);

@@ -89,6 +89,7 @@ impl Wish {
         ensures writes { WritesFront (wish_bytes (wish_view self)) out.old out.new result }
         ensures possible { in_range (wish_view self) ≡ true }
     {
+        // At places, not appended: what is lent has no end that moves.
         let name = self.name.as_slice();
         let length = self.len();
         if out.len() < length {
@@ -99,6 +100,7 @@ impl Wish {
         numbers::put(&mut out[2..4], self.day)?;
         numbers::put(&mut out[4..6], self.minute)?;
         out[6] = self.persons;
+        // That it fits is proved: by `try_from` there would be a branch that can't be met.
         out[7] = name.len() as u8;
         out[8..length].copy_from_slice(name);
         Some(length)

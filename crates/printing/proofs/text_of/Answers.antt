@@ -1,14 +1,12 @@
-use Rattle.std.proofs.Common.{◌≡◌, ℕ, List, Ok, Err, Result, ◌∙◌, MatchResult, IsUtf8, Bor}
+use Rattle.std.proofs.Common.{List, ℕ, Ok, Err, Result, refl, MatchResult, IsUtf8, Bor}
+use Rattle.std.specs.Result.{IsOk}
 use Rattle.printing.proofs.Texts.{name_text}
 use Rattle.printing.proofs.text_of.Goals as goal
 
--- what is text stays so, whatever an error would have turned into
-text_is : {E F : Type 0} (P Q : E → Type 0) (bs ls : List ℕ) (r : Result (Bor (List ℕ)) E) (s : Result (Bor (List ℕ)) F) → bs ≡ ls → IsUtf8 bs →
-    MatchResult r (λ t. (t.now ≡ bs) × IsUtf8 bs) (λ e. (IsUtf8 bs → ⊥) × P e) → MatchResult r (λ t. s ≡ Ok t) Q → MatchResult s (λ t. t.now ≡ ls) (λ _. ⊥)
-text_is P Q bs ls (Ok t) s same text a b = rw b (a.0 ∙ same)
-text_is P Q bs ls (Err e) s same text a b = absurd (a.0 text)
+-- what is text can be had as text
+text_had : {E : Type 0} (P : E → Type 0) (Q : Bor (List ℕ) → Type 0) (bs : List ℕ) (r : Result (Bor (List ℕ)) E) → IsUtf8 bs → MatchResult r Q (λ e. (IsUtf8 bs → ⊥) × P e) → IsOk r
+text_had P Q bs (Ok t) text a = refl
+text_had P Q bs (Err e) text a = absurd (a.0 text)
 
-pub returns : goal.returns
-returns c =
-    let text = name_text _ _ c.args.name.now.possible c.as_slice.ensures in
-    text_is _ _ _ _ c.from_utf8.result c.map_err.result c.as_slice.ensures text c.from_utf8.ensures.cases c.map_err.ensures.cases
+pub unwrap-requires : goal.unwrap-requires
+unwrap-requires c = text_had _ _ _ c.from_utf8.result (name_text _ _ c.args.name.now.possible c.as_slice.ensures) c.from_utf8.ensures.cases

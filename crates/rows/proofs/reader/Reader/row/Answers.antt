@@ -13,10 +13,10 @@ returns-in_err-count c =
     let (short, same) = wanting _ _ _ _ _ c.in_err-count.ensures.value c.byte.ensures in
     rw (p.1, p.2) (record { read = row_none c.args.place c.args.self.now.rest.now short.0 ∙ ap Err same; place = tt })
 
-pub returns-then-count-most_lines : goal.returns-then-count-most_lines
-returns-then-count-most_lines c =
+pub returns-then-from-most_lines : goal.returns-then-from-most_lines
+returns-then-from-most_lines c =
     let head = MatchOption-at_some _ _ _ c.in_ok-count.ensures.ok_part c.byte.ensures in
-    record { read = row_many c.args.place c.args.self.now.rest.now c.in_ok-count.count c.byte.new.self.rest.now head (omega (arith, c.most_lines.ensures, c.if-count-most_lines.true)); place = tt }
+    record { read = row_many c.args.place c.args.self.now.rest.now c.in_ok-count.count c.byte.new.self.rest.now head (omega (arith, c.from.ensures, c.most_lines.ensures, c.if-from-most_lines.true)); place = tt }
 
 pub loop-init : goal.loop-init
 loop-init c = (refl, let z : c.in_ok-count.count - 0 ≡ c.in_ok-count.count = omega arith in rw z)
@@ -30,7 +30,7 @@ returns-in_err-line c =
     (record {
       read =
           row_left c.args.place c.new-lines.result.place c.args.self.now.rest.now c.byte.new.self.rest.now c.in_ok-count.count c.loop.counter (rows c.loop.lines) c.loop.self.rest.now
-          head (omega (arith, c.most_lines.ensures, c.if-count-most_lines.false)) c.new-lines.ensures.place (rows c.new-lines.result) c.new-lines.ensures.lines c.loop.invariant.1 ∙
+          head (omega (arith, c.from.ensures, c.most_lines.ensures, c.if-from-most_lines.false)) c.new-lines.ensures.place (rows c.new-lines.result) c.new-lines.ensures.lines c.loop.invariant.1 ∙
           (lines_short c.args.place (c.in_ok-count.count - c.loop.counter) (rows c.loop.lines) c.loop.self.rest.now (omega (arith, c.loop-test.true)) short ∙ ap Err same);
       place = tt;
     })
@@ -45,7 +45,7 @@ returns-in_err-push c =
     (record {
       read =
           row_left c.args.place c.new-lines.result.place c.args.self.now.rest.now c.byte.new.self.rest.now c.in_ok-count.count c.loop.counter (rows c.loop.lines) c.loop.self.rest.now
-          head (omega (arith, c.most_lines.ensures, c.if-count-most_lines.false)) c.new-lines.ensures.place (rows c.new-lines.result) c.new-lines.ensures.lines c.loop.invariant.1 ∙
+          head (omega (arith, c.from.ensures, c.most_lines.ensures, c.if-from-most_lines.false)) c.new-lines.ensures.place (rows c.new-lines.result) c.new-lines.ensures.lines c.loop.invariant.1 ∙
           lines_refused c.args.place (c.in_ok-count.count - c.loop.counter) (rows c.loop.lines) c.loop.self.rest.now (omega (arith, c.loop-test.true)) _ _ line _
           (ap (λ r. pushed r (rows c.loop.lines) c.in_ok-line.line.now) (sym place) ∙ c.in_err-push.ensures.added.0);
       place = tt;
@@ -68,7 +68,7 @@ returns c =
     record {
       read =
           row_left c.args.place c.new-lines.result.place c.args.self.now.rest.now c.byte.new.self.rest.now c.in_ok-count.count c.loop.counter (rows c.loop.lines) c.loop.self.rest.now
-          head (omega (arith, c.most_lines.ensures, c.if-count-most_lines.false)) c.new-lines.ensures.place (rows c.new-lines.result) c.new-lines.ensures.lines c.loop.invariant.1 ∙
+          head (omega (arith, c.from.ensures, c.most_lines.ensures, c.if-from-most_lines.false)) c.new-lines.ensures.place (rows c.new-lines.result) c.new-lines.ensures.lines c.loop.invariant.1 ∙
           lines_done c.args.place (c.in_ok-count.count - c.loop.counter) (rows c.loop.lines) c.loop.self.rest.now (omega (arith, c.loop-test.false));
       place = c.loop.invariant.0 ∙ c.new-lines.ensures.place;
     }
