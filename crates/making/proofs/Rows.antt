@@ -14,10 +14,6 @@ use Rattle.texts.proofs.Cuts.{to_come, took}
 use Rattle.words.specs.Lines.{line_in}
 use Rattle.making.specs.Cuts.{semicolon, every, lines_in}
 
--- what `split` at a character says of `next`
-abbrev pub Next : Split ℕ → Bor (List ℕ) → Split ℕ → Type 0
-Next s x u = split_steps FindsChar (λ c d. d ≡ c) s (Some x) u
-
 -- ls are the lines so far, and s has the parts to come
 pub record Sofar (ls : List Line) (s : Split ℕ) (text : List ℕ) : Type 0 where
   pub rest : and_is (every (to_come semicolon s)) (λ ms. map line_view ls ++ ms) ≡ lines_in text

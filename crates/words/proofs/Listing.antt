@@ -22,10 +22,6 @@ use Rattle.texts.proofs.Steps.{then_ok, cond_ok}
 
 -- ---- the loop
 
--- what `split` at a character says of `next`
-abbrev pub Next : Split ℕ → Bor (List ℕ) → Split ℕ → Type 0
-Next s x u = split_steps FindsChar (λ c d. d ≡ c) s (Some x) u
-
 -- the first so many of list are read, and s has the parts to come
 pub record Sofar (list : List ℕ) (count : ℕ) (s : Split ℕ) (word : List ℕ) : Type 0 where
   pub rest : listed (take count list) (to_come comma s) ≡ listed [] (parts comma word)
