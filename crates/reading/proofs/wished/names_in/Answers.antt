@@ -1,4 +1,4 @@
-use Rattle.std.proofs.Common.{vec_items, string_bytes, Ok, sym, ap, ◌∙◌, arith, true-eqb, false-eqb}
+use Rattle.std.proofs.Common.{vec_items, Ok, sym, ap, ◌∙◌, arith, true-eqb, false-eqb}
 use Rattle.std.specs.Str.Iter.{split_text, split_has_more, split_pattern}
 use Rattle.reading.proofs.Names.{no_name_yet, empty_part, one_name, no_more}
 use Rattle.reading.proofs.wished.names_in.Goals as goal
