@@ -1,7 +1,6 @@
 -- Lines with semicolons between them, as the loop reads them. Assumes nothing.
-use Rattle.std.proofs.Common.{◌≡◌, ℕ, true, false, List, [], ◌∷◌, ◌++◌, map, Some, Ok, Err, Result, sym, refl, ap, ◌∙◌, append_assoc, append-nil, arith, Bor}
-use Rattle.std.specs.Str.Pattern.{FindsChar}
-use Rattle.std.specs.Str.Iter.{split_text, split_has_more, split_pattern, split_steps}
+use Rattle.std.proofs.Common.{◌≡◌, ℕ, true, false, List, [], ◌∷◌, ◌++◌, map, Ok, Err, Result, sym, refl, ap, ◌∙◌, append_assoc, append-nil, arith, Bor}
+use Rattle.std.specs.Str.Iter.{split_text, split_has_more, split_pattern}
 use Rattle.std.specs.declared.str.Split.{Split}
 use Rattle.std.proofs.lemmas.List.{map_push}
 use Rattle.lines.specs.declared.Line.{Line}
@@ -10,13 +9,9 @@ use Rattle.lines.specs.Views.{line_view}
 use Rattle.texts.specs.declared.Cause.{Cause}
 use Rattle.texts.specs.Cuts.{parts}
 use Rattle.texts.specs.Results.{and_then, and_is}
-use Rattle.texts.proofs.Cuts.{to_come, took}
+use Rattle.texts.proofs.Cuts.{Next, to_come, took}
 use Rattle.words.specs.Lines.{line_in}
 use Rattle.making.specs.Cuts.{semicolon, every, lines_in}
-
--- what `split` at a character says of `next`
-abbrev pub Next : Split ℕ → Bor (List ℕ) → Split ℕ → Type 0
-Next s x u = split_steps FindsChar (λ c d. d ≡ c) s (Some x) u
 
 -- ls are the lines so far, and s has the parts to come
 pub record Sofar (ls : List Line) (s : Split ℕ) (text : List ℕ) : Type 0 where

@@ -4,7 +4,7 @@ ghost use Rattle.office.specs.Ends.{asked_by};
 
 use crate::reasons::Reason;
 
-#[derive(Clone, Copy)]
+#[derive(Clone, Copy, PartialEq, Eq, Debug)]
 pub enum Asked {
     Play,
     Help,

@@ -10,7 +10,7 @@ use std::fmt;
 use std::fmt::Display;
 use std::io::ErrorKind;
 
-#[derive(Clone, Copy)]
+#[derive(Clone, Copy, PartialEq, Eq, Debug)]
 pub enum Reason {
     Argument,
     Input,

@@ -36,6 +36,7 @@ pub fn read_statement(heap: Global, text: &str) -> Result<Option<Statement>, Tro
 }
 
 // The first word says which statement it is.
+#[tactic(auto, using(crate::proofs::FirstWords::said_at), unfolding(crate::specs::Forms::said_by))]
 fn read_by(heap: Global, first: &str, text: &str) -> Result<Statement, Trouble>
     ensures { Told stated result (said_by first.now text.now) }
 {
@@ -49,6 +50,6 @@ fn read_by(heap: Global, first: &str, text: &str) -> Result<Statement, Trouble>
         "give" => read_give(heap, text),
         "wish" => read_wish(heap, text),
         "show" => read_show(heap, text),
-        _ => Err(Trouble::Unreadable(Cause::UnknownWord)),
+        _ => Err(Cause::UnknownWord.into()),
     }
 }

@@ -7,7 +7,7 @@ ghost use Rattle.texts.specs.Cuts.{words_of};
 
 use statements::{Statement, Trouble, asked_in, owned_pair};
 use std::alloc::Global;
-use texts::{after_label, head_and_tail, next_word, only_after, word_and_rest};
+use texts::{GAPS, after_label, head_and_tail, only_after, word_and_rest};
 
 pub fn read_wish(heap: Global, text: &str) -> Result<Statement, Trouble>
     ensures { Told stated result (wish_said text.now) }
@@ -38,15 +38,16 @@ pub fn read_show(heap: Global, text: &str) -> Result<Statement, Trouble>
     })
 }
 
-// All words. `next_word` cuts them off one by one; an iterator would be one type more, for this loop alone.
+// All words: the parts between gaps that are not empty.
 fn names_in(heap: Global, text: &str) -> Result<Vec<String>, Trouble>
     ensures { Told names_view result (Ok (words_of text.now)) }
 {
     let mut names = Vec::new(heap);
-    let mut rest = text;
-    while let Some((word, after)) = next_word(rest) {
+    for word in text.split(GAPS) {
+        if word.is_empty() {
+            continue;
+        }
         names.push(String::from_str(heap, word)?)?;
-        rest = after;
     }
     Ok(names)
 }

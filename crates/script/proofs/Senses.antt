@@ -4,7 +4,8 @@ use Rattle.std.specs.Result.{result_map_both}
 use Rattle.std.specs.Str.{bytes_eq}
 use Rattle.std.proofs.lemmas.Bool.{cond-false}
 use Rattle.texts.proofs.Labelling.{differs}
-use Rattle.script.specs.declared.Cause.TheVariants.{UnknownWord}
+use Rattle.script.specs.declared.Cause.TheVariants.{Words}
+use Rattle.texts.specs.declared.Cause.TheVariants.{UnknownWord}
 use Rattle.script.specs.Rules.{house_sense, sense}
 
 module _ (begun : Bool) (ws : List (List ℕ)) where
@@ -13,7 +14,7 @@ module _ (begun : Bool) (ws : List (List ℕ)) where
   nothing e = ap (sense begun) (sym e)
 
   module _ (w : List ℕ) (us : List (List ℕ)) (e : ws ≡ w ∷ us) where
-    pub other : (w ≡ codes "house" → ⊥) → Err UnknownWord ≡ sense begun ws
+    pub other : (w ≡ codes "house" → ⊥) → Err (Words UnknownWord) ≡ sense begun ws
     unfolding sense
     other h = sym (ap (sense begun) e ∙ cond-false (bytes_eq w (codes "house")) _ _ (differs w (codes "house") h))
 

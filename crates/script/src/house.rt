@@ -8,7 +8,7 @@ ghost use Rattle.trouble.specs.Told.{Told};
 use crate::{Cause, Statement};
 use scripting::Language;
 use std::alloc::Global;
-use texts::next_word;
+use texts::{next_word, only_word};
 use trouble::Trouble;
 
 pub struct HouseOnly;
@@ -32,7 +32,7 @@ impl Language for HouseOnly {
         };
         match first {
             "house" => Ok(Some(read_house(heap, rest, begun)?)),
-            _ => Err(Trouble::Unreadable(Cause::UnknownWord)),
+            _ => Err(Cause::Words(texts::Cause::UnknownWord).into()),
         }
     }
 
@@ -44,11 +44,8 @@ fn read_house(heap: Global, text: &str, begun: bool) -> Result<Statement, Troubl
     ensures { Told stated result (house_sense begun (words_of text.now)) }
 {
     if begun {
-        return Err(Trouble::Unreadable(Cause::LateHouse));
+        return Err(Cause::LateHouse.into());
     }
-    let (seed, rest) = next_word(text).ok_or(Trouble::Unreadable(Cause::MissingWord))?;
-    if next_word(rest).is_some() {
-        return Err(Trouble::Unreadable(Cause::TooManyWords));
-    }
+    let seed = only_word(text).map_err(Cause::Words)?;
     Ok(Statement::House(String::from_str(heap, seed)?))
 }

@@ -1,7 +1,7 @@
 // The text of a script, read into numbered statements.
 //
-// A script has a statement a line; today there is one statement. `#` begins a comment, which goes to the line's end. Words
-// are parted by spaces, tabs and carriage returns. A line with no word says nothing, and is counted.
+// A script has a statement a line. `#` begins a comment, which goes to the line's end. Words are parted by spaces, tabs and
+// carriage returns. A line with no word says nothing, and is counted.
 #![tactic(auto)]
 
 ghost use Rattle.std.specs.Prelude.{◌≡◌, IfOk};
@@ -9,12 +9,14 @@ ghost use Rattle.script.specs.Laws.{LineByLine, CommentsAside};
 ghost use Rattle.script.specs.Rules.{reads};
 ghost use Rattle.script.specs.Views.{told};
 ghost use Rattle.scripting.specs.Rules.{lines_in};
+ghost use Rattle.trouble.specs.declared.Trouble.TheVariants.{Unreadable};
 
 mod display;
 mod house;
 
 use house::HouseOnly;
 use std::alloc::{AllocError, Global};
+use trouble::Trouble;
 
 /// One thing that a script asks for, on a line of its own.
 #[derive(Drop)]
@@ -24,14 +26,20 @@ pub enum Statement {
 }
 
 /// Why a line can't be read.
-#[derive(Clone, Copy)]
+#[derive(Clone, Copy, PartialEq, Eq, Debug)]
 pub enum Cause {
-    /// No statement begins with the line's first word.
-    UnknownWord,
-    MissingWord,
-    TooManyWords,
+    /// The statement's words.
+    Words(texts::Cause),
     /// `house` stands after another statement, or a second time.
     LateHouse,
+}
+
+impl From<Cause> for Trouble<Cause> {
+    ghost from_gives = { λ cause t. t ≡ Unreadable cause };
+
+    fn from(cause: Cause) -> Trouble<Cause> {
+        Trouble::Unreadable(cause)
+    }
 }
 
 /// A statement and the number of its line. Lines are numbered from 1.

@@ -2,11 +2,11 @@
 use Rattle.std.proofs.Common.{◌≡◌, ℕ, ◌+◌, ◌^◌, ◌<◌, Bool, true, false, not, eqb, List, [], ◌∷◌, ◌++◌, map, length, Some, None, Ok, Err, Option, Result, ap, ◌∙◌, arith, Bor}
 use Rattle.std.specs.declared.iter.Enumerate.{Enumerate}
 use Rattle.std.specs.declared.str.Split.{Split}
-use Rattle.std.specs.Str.Pattern.{FindsChar}
-use Rattle.std.specs.Str.Iter.{split_text, split_has_more, split_pattern, split_steps}
+use Rattle.std.specs.Str.Iter.{split_text, split_has_more, split_pattern}
 use Rattle.std.specs.Iterator.Adapters.{enumerate_source, enumerate_count}
 use Rattle.std.proofs.lemmas.List.{map_push}
 use Rattle.std.proofs.lemmas.Bool.{ne_eqb}
+use Rattle.texts.proofs.Cuts as parts
 use Rattle.texts.proofs.Cuts.{to_come, took}
 use Rattle.scripting.specs.declared.Numbered.{Numbered}
 use Rattle.scripting.specs.Rules.{newline, uncommented, Outcome, some_of, outcome, reads}
@@ -22,7 +22,7 @@ after sense said n ls (Err c) = record { said = said; stop = Some (record { line
 
 -- what `split` at a character says of `next`, and `enumerate`
 abbrev pub Next : Enumerate (Split ℕ) → ℕ → Bor (List ℕ) → Enumerate (Split ℕ) → Type 0
-Next s i x u = split_steps FindsChar (λ c d. d ≡ c) (enumerate_source s) (Some x) (enumerate_source u) × (i ≡ enumerate_count s) × (enumerate_count u ≡ enumerate_count s + 1) × (i + 1 < 2 ^ 64)
+Next s i x u = parts.Next (enumerate_source s) x (enumerate_source u) × (i ≡ enumerate_count s) × (enumerate_count u ≡ enumerate_count s + 1) × (i + 1 < 2 ^ 64)
 
 -- ns are the statements so far, and s has the lines to come
 pub record Sofar {S X C : Type 0} (stated : S → X) (sense : Bool → List ℕ → Result (Option X) C) (ns : List (Numbered S)) (s : Enumerate (Split ℕ)) (text : List ℕ) : Type 0 where

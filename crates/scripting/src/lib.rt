@@ -52,7 +52,7 @@ pub struct Numbered<S> {
 }
 
 /// A line that can't be read.
-#[derive(Clone, Copy)]
+#[derive(Clone, Copy, PartialEq, Eq, Debug)]
 pub struct Fault<C> {
     pub line: usize,
     pub cause: C,
@@ -107,8 +107,6 @@ pub fn read_script<L: Language>(
 fn code_of(line: &str) -> &str
     ensures { result.now ≡ uncommented line.now }
 {
-    match line.split_once('#') {
-        Some((code, _)) => code,
-        None => line,
-    }
+    let (code, _) = line.split_once('#').unwrap_or((line, ""));
+    code
 }

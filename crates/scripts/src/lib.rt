@@ -9,21 +9,31 @@ ghost use Rattle.scripting.specs.Rules.{lines_in};
 ghost use Rattle.scripts.specs.Laws.{LineByLine, HouseOpensFirst, CommentsAside};
 ghost use Rattle.scripts.specs.Rules.{reads};
 ghost use Rattle.scripts.specs.Views.{told};
+ghost use Rattle.trouble.specs.declared.Trouble.TheVariants.{Unreadable};
 
 mod display;
 mod whole;
 
 use statements::Statement;
 use std::alloc::{AllocError, Global};
+use trouble::Trouble;
 use whole::AllStatements;
 
 /// Why a line can't be read.
-#[derive(Clone, Copy)]
+#[derive(Clone, Copy, PartialEq, Eq, Debug)]
 pub enum Cause {
     /// `house` stands after another statement or a second time, or another statement stands before it.
     HouseFirst,
     /// The statement's words.
     Words(words::Cause),
+}
+
+impl From<Cause> for Trouble<Cause> {
+    ghost from_gives = { λ cause t. t ≡ Unreadable cause };
+
+    fn from(cause: Cause) -> Trouble<Cause> {
+        Trouble::Unreadable(cause)
+    }
 }
 
 /// A statement and the number of its line. Lines are numbered from 1.

@@ -32,7 +32,7 @@ impl Language for AllStatements {
             return Ok(None);
         };
         if opens_house(&statement) == begun {
-            return Err(Trouble::Unreadable(Cause::HouseFirst));
+            return Err(Cause::HouseFirst.into());
         }
         Ok(Some(statement))
     }
@@ -46,7 +46,7 @@ fn opens_house(statement: &Statement) -> bool
     matches!(statement, Statement::House(_))
 }
 
-// What is told of a statement, as it is told of a script.
+// What is told of a statement, as it is told of a script. A `From` would stand with one of the two types, which are of other crates.
 fn in_words(trouble: statements::Trouble) -> Trouble<Cause>
     ensures { result ≡ in_words trouble }
 {

@@ -44,11 +44,22 @@ module _ (t : ℕ → Bool) (ascii : (c : ℕ) → t c ≡ true → c < 128) whe
       let whole : w ≡ take i w ++ c ∷ drop j w = sym (take-append-drop i w) ∙ ap (λ l. take i w ++ l) cut in
       ap (parts t) whole ∙ parts_cut t (take i w) c (drop j w) f.1.1 (free (take i w) f.0)
 
+  -- a call of `next` on what is split at such characters gave x, with rest to come if live
+  part : (w x : List ℕ) (live : Bool) (rest : List ℕ) (o : Option (ℕ × ℕ)) → FindsBy t w o → MatchOption o ((x ≡ w) × (live ≡ false)) (λ q. 0 < q.1 → (x ≡ take q.0 w) × (live ≡ true) × (rest ≡ drop q.1 w)) → parts t w ≡ x ∷ cond live (parts t rest) []
+  part w x live rest None f h = rw (h.0, h.1) (parts_all t w (free w f))
+  part w x live rest (Some q) f h =
+      let k = h (omega (arith, f.1.2.ends, (len_utf8_bounds f.1.0).0)) in
+      rw (k.0, k.1, k.2) (cut_at w q.0 q.1 f)
+
 -- ---- what `split` does, part by part
 
 -- the parts that are still to come
 abbrev pub to_come : {P : Type 0} → (ℕ → Bool) → Split P → List (List ℕ)
 to_come t s = cond (split_has_more s) (parts t (split_text s)) []
+
+-- what `split` at a character says of `next`
+abbrev pub Next : Split ℕ → Bor (List ℕ) → Split ℕ → Type 0
+Next s x u = split_steps FindsChar (λ c d. d ≡ c) s (Some x) u
 
 -- at the character d
 module _ (d : ℕ) (ascii : d < 128) where
@@ -58,18 +69,13 @@ module _ (d : ℕ) (ascii : d < 128) where
   is_ascii : (c : ℕ) → is c ≡ true → c < 128
   is_ascii c e = omega (arith, eqb-true c d e)
 
-  at : (w x : List ℕ) (live : Bool) (rest : List ℕ) (o : Option (ℕ × ℕ)) → FindsChar d w o → MatchOption o ((x ≡ w) × (live ≡ false)) (λ q. 0 < q.1 → (x ≡ take q.0 w) × (live ≡ true) × (rest ≡ drop q.1 w)) → parts is w ≡ x ∷ cond live (parts is rest) []
-  at w x live rest None f h = rw (h.0, h.1) (parts_all is w (free is is_ascii w f))
-  at w x live rest (Some q) f h =
-      let k = h (omega (arith, f.1.ends, (len_utf8_bounds d).0)) in
-      rw (k.0, k.1, k.2) (cut_at is is_ascii w q.0 q.1 (f.0, (d, eqb_same, f.1)))
-    where
-      eqb_same : is d ≡ true
-      eqb_same = grind (arith, nat_tests)
+  finds : (w : List ℕ) (o : Option (ℕ × ℕ)) → FindsChar d w o → FindsBy is w o
+  finds w None f = f
+  finds w (Some q) f = (f.0, (d, grind (arith, nat_tests), f.1))
 
   -- a call of `next` took the part x of s, and left u
   pub took : (s u : Split ℕ) (x : Bor (List ℕ)) → split_pattern s ≡ d → split_steps FindsChar (λ c e. e ≡ c) s (Some x) u → to_come is s ≡ x.now ∷ to_come is u
-  took s u x e h = rw (sym h.0) (at (split_text s) x.now (split_has_more u) (split_text u) cut.1.0 cut.1.1 cut.1.2)
+  took s u x e h = rw (sym h.0) (part is is_ascii (split_text s) x.now (split_has_more u) (split_text u) cut.1.0 (finds (split_text s) cut.1.0 cut.1.1) cut.1.2)
     where
       cut : IsSplitAtFirstMatch (FindsChar d) (split_text s) x.now (split_has_more u) (split_text u)
       cut = rw e at h.1.1
@@ -113,9 +119,21 @@ module _ (d : ℕ) (ascii : d < 128) where
 pub gap_ascii : (c : ℕ) → gap c ≡ true → c < 128
 gap_ascii c e = grind (arith, nat_tests)
 
--- what `trim_start_matches` and `split_once` say where they look for gaps
-abbrev Lists : (ℕ → Bool) → Type 0
-Lists t = (c : ℕ) → char_set_contains (32 ∷ 9 ∷ 13 ∷ []) c ≡ t c
+-- l lists the characters that pass t
+abbrev pub IsList : List ℕ → (ℕ → Bool) → Type 0
+IsList l t = (c : ℕ) → char_set_contains l c ≡ t c
+
+-- what a search for gaps says that it looks for
+abbrev pub Lists : (ℕ → Bool) → Type 0
+Lists t = IsList (32 ∷ 9 ∷ 13 ∷ []) t
+
+-- what `split` at a list of characters says of `next`
+abbrev pub NextWord : Split (List ℕ) → Bor (List ℕ) → Split (List ℕ) → Type 0
+NextWord s x u = split_steps (λ l w o. (t : ℕ → Bool) → IsList l t → FindsBy t w o) (λ l m. (t : ℕ → Bool) → IsList l t → IsList m t) s (Some x) u
+
+-- a call of `next` took the part x of s, which is cut at gaps, and left u
+pub took_word : (s u : Split (List ℕ)) (x : Bor (List ℕ)) → IsList (split_pattern s) gap → NextWord s x u → to_come gap s ≡ x.now ∷ to_come gap u
+took_word s u x e h = rw (sym h.0) (part gap gap_ascii (split_text s) x.now (split_has_more u) (split_text u) h.1.1.1.0 (h.1.1.1.1 gap e) h.1.1.1.2)
 
 abbrev pub Begins : List ℕ → Option ℕ → Type 0
 Begins s o = (t : ℕ → Bool) → Lists t → FindsPrefixBy t s o

@@ -1,7 +1,7 @@
 -- The last word of a text, as the code cuts it off. Assumes nothing.
-use Rattle.std.proofs.Common.{◌≡◌, ℕ, ◌-◌, ◌<◌, Bool, true, false, ◌⊎◌, List, [], ◌∷◌, ◌++◌, length, take, drop, IfSome, Some, None, Option, MatchOption, Bor, sym, refl, ap, ◌∙◌, inl, inr, ⊎_elim, arith}
+use Rattle.std.proofs.Common.{◌≡◌, ℕ, ◌-◌, ◌<◌, Bool, true, false, List, [], ◌∷◌, ◌++◌, length, take, drop, IfSome, Some, None, Option, MatchOption, Bor, sym, refl, ap, ◌∙◌, ⊎_elim, arith}
 use lib.Utf8.{scalar}
-use Rattle.std.specs.Char.{char_set_contains}
+use mathlib.Mathlib.Data.List.Basic.{eq-nil-or-concat'}
 use Rattle.std.specs.Option.{unwrap_or}
 use Rattle.std.specs.Str.Pattern.{RFindsBy, FindsSuffixBy, HasPassingCharAt, CutsSuffixes, IsTrimEndMatches, IsFullyTrimmed, SplitsAroundMatch}
 use Rattle.std.proofs.lemmas.List.{take-append-drop, nil_from_length}
@@ -11,12 +11,9 @@ use Rattle.std.proofs.lemmas.Str.{len_utf8_bounds, encode_ascii}
 use Rattle.std.proofs.lemmas.Bool.Decides.{nat_tests}
 use Rattle.texts.specs.Cuts.{gap, or_here, at_last, closing, trimmed, after_gap, last_of, last_word}
 use Rattle.texts.specs.Results.{both_parts}
-use Rattle.texts.proofs.Cuts.{Free, free, gap_ascii}
+use Rattle.texts.proofs.Cuts.{Free, free, gap_ascii, Lists}
 
 -- what `trim_end_matches` and `rsplit_once` say where they look for gaps
-abbrev Lists : (ℕ → Bool) → Type 0
-Lists t = (c : ℕ) → char_set_contains (32 ∷ 9 ∷ 13 ∷ []) c ≡ t c
-
 abbrev pub Closes : List ℕ → Option ℕ → Type 0
 Closes s o = (t : ℕ → Bool) → Lists t → FindsSuffixBy t s o
 
@@ -48,14 +45,6 @@ past_gaps : (s ns r : List ℕ) → CutsSuffixes Closes s ns r → trimmed s ≡
 past_gaps s [] r h = ap trimmed (sym h)
 past_gaps s (n ∷ ns) r h = past_gaps s ns h.0 h.1 ∙ past_gap h.0 n (h.2 gap (λ c. refl)) ∙ ap trimmed (sym h.3)
 
--- a text is empty or has a last byte
-abbrev Snoc : List ℕ → Type 0
-Snoc bs = (bs ≡ []) ⊎ ((front : List ℕ) × (b : ℕ) × (bs ≡ front ++ b ∷ []))
-
-snoc : (bs : List ℕ) → Snoc bs
-snoc [] = inl refl
-snoc (b ∷ bs) = ⊎_elim (λ e. inr ([], b, ap (λ l. b ∷ l) e)) (λ s. inr (b ∷ s.0, s.1, ap (λ l. b ∷ l) s.2)) (snoc bs)
-
 -- what is left ends with no gap
 kept : (r : List ℕ) → IsFullyTrimmed Closes r → trimmed r ≡ r
 kept r h = by h.0 (h.1 gap (λ c. refl)) h.2
@@ -70,7 +59,7 @@ kept r h = by h.0 (h.1 gap (λ c. refl)) h.2
         (λ g. let low = gap_ascii s.1 g in let is : scalar s.1 ≡ true = grind (arith, nat_tests) in k s.1 s.0 is (s.2 ∙ ap (λ l. s.0 ++ l) (sym (encode_ascii s.1 low))))
         (λ g. g) (cases_Bool (gap s.1)))
         ∙ sym s.2)
-        (snoc r)
+        (eq-nil-or-concat' r)
 
 -- ---- the last gap
 

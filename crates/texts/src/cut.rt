@@ -7,7 +7,8 @@ ghost use Rattle.texts.specs.Results.{word_read, pair_read, both_parts, cut_read
 
 use crate::Cause;
 
-const GAPS: [char; 3] = [' ', '\t', '\r'];
+/// What parts words.
+pub const GAPS: [char; 3] = [' ', '\t', '\r'];
 
 /// The first word, and what follows it.
 pub fn next_word(text: &str) -> Option<(&str, &str)>
@@ -28,6 +29,7 @@ pub fn word_and_rest(text: &str) -> Result<(&str, &str), Cause>
 }
 
 /// What stands before the last word, and that word.
+// `next_word` from the other end: other calls of the library, and the other order in the pair.
 pub fn last_word(text: &str) -> Option<(&str, &str)>
     ensures { option_map both_parts result ≡ last_word text.now }
 {

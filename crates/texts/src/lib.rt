@@ -12,13 +12,13 @@ mod labels;
 mod numeral;
 mod wording;
 
-pub use cut::{head_and_tail, last_word, next_word, only_word, optional_word, word_and_rest};
+pub use cut::{GAPS, head_and_tail, last_word, next_word, only_word, optional_word, word_and_rest};
 pub use labels::{after_label, only_after, pair_after};
 pub use numeral::{Unsigned, number};
 use trouble::Trouble;
 
 /// Why a text can't be read: one list for all that people type, so that a reader hands on what those below it tell.
-#[derive(Clone, Copy)]
+#[derive(Clone, Copy, PartialEq, Eq, Debug)]
 pub enum Cause {
     /// Another word should stand there.
     UnknownWord,

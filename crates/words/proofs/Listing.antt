@@ -1,10 +1,8 @@
 -- Numbers with commas between them. Assumes nothing.
-use Rattle.std.proofs.Common.{◌≡◌, ℕ, ◌+◌, ◌<◌, ◌≤◌, true, false, ltb, List, [], ◌∷◌, ◌++◌, length, take, set, Some, Ok, Err, sym, refl, ap, ◌∙◌, append_assoc, append-nil, arith, length-append, length-set, Bor}
-use Rattle.std.specs.Str.Pattern.{FindsChar}
-use Rattle.std.specs.Str.Iter.{split_has_more, split_pattern, split_steps}
+use Rattle.std.proofs.Common.{◌≡◌, ℕ, ◌+◌, ◌<◌, ◌≤◌, true, false, ltb, List, [], ◌∷◌, ◌++◌, length, Ok, Err, sym, refl, ap, ◌∙◌, append_assoc, append-nil, arith, length-append, Bor}
+use Rattle.std.specs.Str.Iter.{split_text, split_has_more, split_pattern}
 use Rattle.std.specs.List.{join_with_byte, AllByRecursion}
 use Rattle.std.specs.declared.str.Split.{Split}
-use Rattle.std.proofs.lemmas.List.{take_more_set}
 use Rattle.std.proofs.lemmas.Bool.{cond-true, cond-false, cond_both, and_parts, lt-ltb, le-ltb, eqb-true}
 use Rattle.std.proofs.lemmas.Bool.Decides.{nat_tests}
 use Rattle.narrow.specs.Rows.{all}
@@ -16,52 +14,41 @@ use Rattle.words.specs.Lines.{listed}
 use Rattle.words.specs.Means.{WriteAll}
 use Rattle.texts.specs.Numerals.{number_of}
 use Rattle.texts.specs.Results.{and_then}
-use Rattle.texts.proofs.Cuts.{Free, parts_all, parts_cut, to_come, took}
+use Rattle.texts.proofs.Cuts.{Free, parts_all, parts_cut, Next, to_come, took}
 use Rattle.texts.proofs.Digits.{number_takes, number_told, writes_digits, digits_free}
 use Rattle.texts.proofs.Steps.{then_ok, cond_ok}
 
 -- ---- the loop
 
--- what `split` at a character says of `next`
-abbrev pub Next : Split ℕ → Bor (List ℕ) → Split ℕ → Type 0
-Next s x u = split_steps FindsChar (λ c d. d ≡ c) s (Some x) u
-
--- the first so many of list are read, and s has the parts to come
-pub record Sofar (list : List ℕ) (count : ℕ) (s : Split ℕ) (word : List ℕ) : Type 0 where
-  pub rest : listed (take count list) (to_come comma s) ≡ listed [] (parts comma word)
+-- list is what was read, and s has the parts to come
+pub record Sofar (list : List ℕ) (s : Split ℕ) (word : List ℕ) : Type 0 where
+  pub rest : listed list (to_come comma s) ≡ listed [] (parts comma word)
   pub cuts : split_pattern s ≡ 44
-  pub long : length list ≡ 8
-  pub room : count ≤ 8
 
-module _ {list : List ℕ} {count : ℕ} {s : Split ℕ} {word : List ℕ} (old : Sofar list count s word) where
-  taken : length (take count list) ≡ count
-  taken = omega (arith, lib.ListN.length-take count list, old.long, old.room)
+module _ {list : List ℕ} {s : Split ℕ} {word : List ℕ} where
+  pub no_number_yet : list ≡ [] → split_has_more s ≡ true → split_text s ≡ word → split_pattern s ≡ 44 → Sofar list s word
+  no_number_yet e f g h = record { rest = rw (e, f, g) refl; cuts = h }
 
-  pub no_more : split_has_more s ≡ false → Ok (take count list) ≡ listed [] (parts comma word)
-  no_more e = rw e at old.rest
+  module _ (old : Sofar list s word) where
+    pub no_more : split_has_more s ≡ false → Ok list ≡ listed [] (parts comma word)
+    no_more e = rw e at old.rest
 
-  module _ (u : Split ℕ) (x : Bor (List ℕ)) (step : Next s x u) where
-    turn : listed (take count list) (x.now ∷ to_come comma u) ≡ listed [] (parts comma word)
-    turn =
-        ap (listed (take count list)) (sym (took 44 (omega arith) s u x old.cuts step)) ∙ old.rest
+    module _ (u : Split ℕ) (x : Bor (List ℕ)) (step : Next s x u) where
+      turn : listed list (x.now ∷ to_come comma u) ≡ listed [] (parts comma word)
+      turn = ap (listed list) (sym (took 44 (omega arith) s u x old.cuts step)) ∙ old.rest
 
-    pub too_many : count ≡ 8 → Err TooManyMuseums ≡ listed [] (parts comma word)
-    too_many e = sym (cond-false (ltb (length (take count list)) 8) _ _ (le-ltb _ 8 (omega (arith, taken)))) ∙ turn
+      pub too_many : length list ≡ 8 → Err TooManyMuseums ≡ listed [] (parts comma word)
+      too_many e = sym (cond-false (ltb (length list) 8) _ _ (le-ltb _ 8 (omega arith))) ∙ turn
 
-    module _ (less : count < 8) where
-      number_next : and_then (number_of 255 x.now) (λ m. listed (take count list ++ m ∷ []) (to_come comma u)) ≡ listed [] (parts comma word)
-      number_next = sym (cond-true (ltb (length (take count list)) 8) _ _ (lt-ltb _ 8 (omega (arith, taken)))) ∙ turn
+      module _ (less : length list < 8) where
+        number_next : and_then (number_of 255 x.now) (λ m. listed (list ++ m ∷ []) (to_come comma u)) ≡ listed [] (parts comma word)
+        number_next = sym (cond-true (ltb (length list) 8) _ _ (lt-ltb _ 8 less)) ∙ turn
 
-      pub no_number : (c : Cause) → Err c ≡ number_of 255 x.now → Err c ≡ listed [] (parts comma word)
-      no_number c e = rw (sym e) at number_next
+        pub no_number : (c : Cause) → Err c ≡ number_of 255 x.now → Err c ≡ listed [] (parts comma word)
+        no_number c e = rw (sym e) at number_next
 
-      pub one_more : (m : ℕ) → Ok m ≡ number_of 255 x.now → Sofar (set list count m) (count + 1) u word
-      one_more m e = record {
-        rest = rw (take_more_set list count m (omega (arith, old.long))) (rw (sym e) at number_next);
-        cuts = step.1.0 ∙ old.cuts;
-        long = length-set list count m ∙ old.long;
-        room = omega arith;
-      }
+        pub one_more : (m : ℕ) (more : List ℕ) → Ok m ≡ number_of 255 x.now → more ≡ list ++ m ∷ [] → Sofar more u word
+        one_more m more e f = record { rest = rw f (rw (sym e) at number_next); cuts = step.1.0 ∙ old.cuts }
 
 -- ---- parts, and what is joined of them
 

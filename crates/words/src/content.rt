@@ -3,6 +3,7 @@ ghost use Rattle.std.specs.Prelude.{◌≡◌};
 ghost use Rattle.words.specs.Lines.{museums_of, span_of, name_of, key_of};
 ghost use Rattle.words.specs.Results.{museums_read, span_read, name_read, key_read};
 
+use arrayvec::ArrayVec;
 use lines::{KeyNumber, Museums, Name, Span};
 use texts::{Cause, number};
 
@@ -10,17 +11,14 @@ use texts::{Cause, number};
 pub fn museums_of(word: &str) -> Result<Museums, Cause>
     ensures { museums_read result ≡ museums_of word.now }
 {
-    // Without a heap the numbers stand in a fixed array, with their count beside it.
-    let mut list = [0; 8];
-    let mut count = 0;
+    let mut list = ArrayVec::<u8, 8>::new();
     for part in word.split(',') {
-        if count == 8 {
+        if list.is_full() {
             return Err(Cause::TooManyMuseums);
         }
-        list[count] = number(part)?;
-        count += 1;
+        list.push(number(part)?);
     }
-    Museums::new(&list[0..count]).ok_or(Cause::NoSuchMuseum)
+    Museums::new(list.as_slice()).ok_or(Cause::NoSuchMuseum)
 }
 
 /// The first and the last number, as `10-20`.

@@ -21,4 +21,4 @@ returns-in_ok-read_house-in-house c =
     ap (result_map_both Some (λ e. e)) c.in_ok-read_house-in-house.ensures ∙ house c.args.begun _ c.in-Some.first.now _ c.in-Some.ensures c.in-house.is
 
 pub returns-in_default-first : goal.returns-in_default-first
-returns-in_default-first c = other c.args.begun _ c.in-Some.first.now _ c.in-Some.ensures c.in_default-first.not-house
+returns-in_default-first c = rw c.into.ensures (other c.args.begun _ c.in-Some.first.now _ c.in-Some.ensures c.in_default-first.not-house)

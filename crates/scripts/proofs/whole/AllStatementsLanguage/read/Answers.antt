@@ -19,7 +19,7 @@ returns-in_default c =
 pub returns-then-opens_house-begun : goal.returns-then-opens_house-begun
 returns-then-opens_house-begun c =
     let h = renamed c.args.code.now c.read_statement.result c.map_err.result c.map_err.ensures.cases (λ e t k. search rules) c.read_statement.ensures in
-    out_of_place c.args.begun c.args.code.now (stated c.in-Some.statement) (rw (c.in_ok-statement.was, c.in-Some.is) at h) c.opens_house.result c.opens_house.ensures c.if-opens_house-begun.true
+    rw c.into.ensures (out_of_place c.args.begun c.args.code.now (stated c.in-Some.statement) (rw (c.in_ok-statement.was, c.in-Some.is) at h) c.opens_house.result c.opens_house.ensures c.if-opens_house-begun.true)
 
 pub returns : goal.returns
 returns c =
