@@ -9,7 +9,8 @@ use indexmap::IndexMap;
 use lines::KeyNumber;
 use std::alloc::AllocError;
 
-/// The house's book: its own key, and the keys of yeses that it knows, each secret by its number, in the order in which they came.
+/// The house's book: its own key, and the keys of yeses that it knows, each secret by its number, of which no two
+/// are one, in the order in which they came.
 #[derive(Drop)]
 pub struct Book {
     pub(crate) house: Mac,

@@ -3,7 +3,8 @@ ghost use Rattle.book.specs.Booking.{with_key};
 ghost use Rattle.book.specs.Keys.{taken, new_key};
 ghost use Rattle.book.specs.Entries.{key_view};
 ghost use Rattle.book.specs.Views.{book_view};
-ghost use Rattle.std.specs.Prelude.{◌≡◌, false, Ok, Err, MatchResult};
+ghost use Rattle.rows.specs.Due.{ReadAs};
+ghost use Rattle.std.specs.Prelude.{◌≡◌, false, MatchResult};
 
 use crate::held::Book;
 use codec::{Coded, Kind, read_kind};
@@ -15,9 +16,7 @@ use tickets::YesKey;
 
 // The next key of a book. A number that is taken is a fault before its secret is read.
 pub fn read_key(reader: &mut Reader<'_>, book: &Book) -> Result<YesKey, Fault>
-    ensures { MatchResult result
-        (λ k. (new_key (book_view book.now).keys).read reader.old.rest.now ≡ Ok (key_view k, reader.new.rest.now))
-        (λ f. (new_key (book_view book.now).keys).read reader.old.rest.now ≡ Err f) }
+    ensures { ReadAs (new_key (book_view book.now).keys).read key_view reader.old.rest.now result reader.new.rest.now }
 {
     read_kind(reader, Kind::Key as u8)?;
     let number = KeyNumber::read(reader)?;

@@ -52,6 +52,7 @@ impl Book {
     pub fn add(&mut self, key: YesKey) -> Result<(), AddError>
         ensures { Added (book_view self.old) (key_view key) (book_view self.new) result }
     {
+        // By the map's `entry` there would be two ways of putting a key, as `read_book` puts those whose numbers it has asked.
         if self.secret(key.number).is_some() {
             return Err(AddError::Taken);
         }
@@ -59,12 +60,14 @@ impl Book {
         Ok(())
     }
 
+    // It is read with a heap, so it is no `Coded`; a trait for writing alone would save a line or two here and in what is shown.
     pub fn to_bytes(&self, heap: Global) -> Result<Vec<u8>, AllocError>
         ensures { IfOk result (λ v. v.items ≡ book_bytes (book_view self.now)) }
     {
         let mut out = Vec::new(heap);
         out.push(Kind::Book as u8)?;
         out.extend_from_slice(&self.house.bytes())?;
+        // That the count fits two bytes is proved, so that it is cast.
         out.extend_from_slice(&(self.keys.len() as u16).to_bytes())?;
         for (number, secret) in &self.keys {
             let key = YesKey {
@@ -86,6 +89,7 @@ pub fn read_book(heap: Global, bytes: &[u8]) -> Result<Book, Unread>
     let house = Mac::read(&mut reader)?;
     let count = reader.number::<u16, _>().ok_or(Fault::Shape)?;
     let mut book = Book::new(heap, house);
+    // As a chain, its closure would change the reader, and a proof learns nothing of what a closure changes.
     for _ in 0..count {
         let key = read_key(&mut reader, &book)?;
         book.put(key)?;

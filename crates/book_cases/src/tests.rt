@@ -1,7 +1,7 @@
 use super::tables::{BOOKS, THREE, TWO};
 use book::{AddError, Book, read_book};
 use hmac::Mac;
-use lines::{Fault, KeyNumber};
+use lines::KeyNumber;
 use showing::Unread;
 use std::alloc::Global;
 use std::process::Abort;
@@ -15,9 +15,8 @@ fn told(rt: &impl Abort, heap: Global, bytes: &[u8]) -> Result<u8, Fail> {
             assert!(rt; book.to_bytes(heap)?.as_slice() == bytes);
             Ok(0)
         }
-        Err(Unread::Unreadable(Fault::Shape)) => Ok(1),
-        Err(Unread::Unreadable(Fault::Unreadable)) => Ok(2),
-        Err(_) => Err(Fail::new("neither read nor at one of these faults")),
+        Err(Unread::Unreadable(fault)) => Ok(u8::from(fault)),
+        Err(Unread::NoMemory) => Err(Fail::new("no memory")),
     }
 }
 

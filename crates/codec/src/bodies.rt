@@ -1,6 +1,7 @@
 // What tickets and yeses say, without their MACs.
-ghost use Rattle.std.specs.Prelude.{◌≡◌, ◌∷◌, ◌++◌, length, IfOk};
+ghost use Rattle.std.specs.Prelude.{◌∷◌, length};
 ghost use Rattle.codec.specs.Things.{ticket_body_format, yes_body_format, yes_content, yes_kind};
+ghost use Rattle.codec.specs.Whole.{Appends};
 ghost use Rattle.narrow.specs.Ticket as model;
 ghost use Rattle.rows.specs.Due.{ReadAs};
 ghost use Rattle.rows.specs.Row.{rows};
@@ -68,7 +69,7 @@ pub fn read_content(reader: &mut Reader<'_>) -> Result<YesBody, Fault>
 }
 
 pub fn write_content(out: &mut Vec<u8>, body: &YesBody) -> Result<(), AllocError>
-    ensures { IfOk result (λ _. out.new.items ≡ out.old.items ++ yes_content.write (yes_body body.now)) }
+    ensures { Appends (yes_content.write (yes_body body.now)) out.old.items result out.new.items }
 {
     body.key.write(out)?;
     write_row(out, &body.limits)
@@ -76,7 +77,7 @@ pub fn write_content(out: &mut Vec<u8>, body: &YesBody) -> Result<(), AllocError
 
 // A count, and the lines as they are carried. That the count fits a byte is proved, so that it is cast.
 fn write_row(out: &mut Vec<u8>, lines: &Lines) -> Result<(), AllocError>
-    ensures { IfOk result (λ _. out.new.items ≡ out.old.items ++ length (rows lines.now) ∷ wire (rows lines.now)) }
+    ensures { Appends (length (rows lines.now) ∷ wire (rows lines.now)) out.old.items result out.new.items }
 {
     out.push(lines.len() as u8)?;
     out.extend_from_slice(lines.wire())

@@ -1,7 +1,8 @@
 // What has a format.
 ghost use Rattle.codec.specs.Format.{Format, write_several};
+ghost use Rattle.codec.specs.Whole.{Appends};
 ghost use Rattle.rows.specs.Due.{ReadAs};
-ghost use Rattle.std.specs.Prelude.{◌≡◌, ◌++◌, map, IfOk};
+ghost use Rattle.std.specs.Prelude.{◌≡◌, map, IfOk};
 
 use lines::Fault;
 use rows::Reader;
@@ -26,7 +27,7 @@ pub trait Coded {
 
     /// Puts its bytes behind what is there. Where memory runs out, a part of them may be.
     fn write(&self, out: &mut Vec<u8>) -> Result<(), AllocError>
-        ensures { IfOk result (λ _. out.new.items ≡ out.old.items ++ format.write (view self.now)) };
+        ensures { Appends (format.write (view self.now)) out.old.items result out.new.items };
 
     final fn to_bytes(&self, heap: Global) -> Result<Vec<u8>, AllocError>
         ensures { IfOk result (λ v. v.items ≡ format.write (view self.now)) }
@@ -39,7 +40,7 @@ pub trait Coded {
 
 /// Puts the bytes of each behind what is there, one after the other.
 pub fn write_all<T: Coded>(out: &mut Vec<u8>, things: &[T]) -> Result<(), AllocError>
-    ensures { IfOk result (λ _. out.new.items ≡ out.old.items ++ write_several T.format.write (map T.view things.now)) }
+    ensures { Appends (write_several T.format.write (map T.view things.now)) out.old.items result out.new.items }
 {
     for thing in things {
         thing.write(out)?;

@@ -11,7 +11,8 @@ use numbers::Number;
 use rows::Reader;
 use std::alloc::AllocError;
 
-/// The kind that is looked for, and no other.
+/// The kind that is looked for, and no other. It is a `u8`, as a crate above may have a kind of its own,
+/// which a `Kind` here would shut out.
 pub fn read_kind(reader: &mut Reader<'_>, kind: u8) -> Result<(), Fault>
     ensures { MatchResult result
         (λ _. reader.old.rest.now ≡ kind ∷ reader.new.rest.now)

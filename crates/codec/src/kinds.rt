@@ -57,6 +57,7 @@ impl Coded for TiedYes {
     }
 }
 
+// This and the next differ in their types alone. As one impl they would be a generic pair with a kind, whose fields had no names.
 impl Coded for PassedYes {
     ghost View = { model.Ticket × Tied };
 

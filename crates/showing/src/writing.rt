@@ -10,6 +10,7 @@ use codec::{Coded, Kind, write_all};
 use std::alloc::{AllocError, Global};
 use wishes::Wish;
 
+// It is read with a heap, so it is no `Coded`; a trait for writing alone would save these two lines here and in the book.
 impl Shown {
     pub fn to_bytes(&self, heap: Global) -> Result<Vec<u8>, AllocError>
         ensures { IfOk result (λ v. v.items ≡ shown.write (shown_view self.now)) }
@@ -18,6 +19,7 @@ impl Shown {
         out.push(Kind::Shown as u8)?;
         out.extend_from_slice(wish_bytes(heap, self.wish)?.as_slice())?;
         self.ticket.write(&mut out)?;
+        // That the count fits a byte is proved (`few`), so that it is cast.
         out.push(self.yeses.len() as u8)?;
         write_all(&mut out, self.yeses.as_slice())?;
         Ok(out)

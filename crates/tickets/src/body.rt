@@ -2,8 +2,8 @@
 ghost use Rattle.lines.specs.declared.Fault.{Fault};
 ghost use Rattle.narrow.specs.Term.{Bytes};
 ghost use Rattle.rows.specs.Due.{ChangedAs};
-ghost use Rattle.std.specs.Prelude.{Result};
-ghost use Rattle.tickets.specs.Made.{Thing, StaysRight};
+ghost use Rattle.std.specs.Prelude.{◌≡◌, Result};
+ghost use Rattle.tickets.specs.Made.{Thing, carried, StaysRight};
 ghost use Rattle.tickets.specs.Making.{Maced};
 
 use lines::Fault;
@@ -21,6 +21,9 @@ pub trait Body {
 
     // what it is as a thing that somebody has
     ghost thing: { Maced View → Thing };
+
+    // that thing's 32 bytes are its MAC
+    ghost carries: { (m : Maced View) → carried (thing m) ≡ m.mac };
 
     /// One line more, at the end. Where it is refused, nothing changes.
     fn push(&mut self, line: &[u8]) -> Result<(), Fault>

@@ -1,5 +1,6 @@
 // Tickets and yeses made longer.
 ghost use Rattle.rows.specs.Due.{ChangedAs};
+ghost use Rattle.std.proofs.Common.{refl};
 ghost use Rattle.tickets.specs.Stays.{right_line, right_limit};
 ghost use Rattle.tickets.specs.Made.{Secrets, Right, ATicket, AYes};
 ghost use Rattle.tickets.specs.Making.{added, ticket_longer, yes_longer};
@@ -20,6 +21,8 @@ impl Body for TicketBody {
 
     ghost thing = { ATicket };
 
+    ghost carries = { λ m. refl };
+
     ghost stays_right = { right_line };
 
     /// A line that can't be read is refused, and one more than a ticket has room for.
@@ -37,6 +40,8 @@ impl Body for YesBody {
 
     ghost thing = { AYes };
 
+    ghost carries = { λ m. refl };
+
     ghost stays_right = { right_limit };
 
     /// A limit that can't be read is refused, and an else, and one more than a yes has room for.
@@ -46,7 +51,7 @@ impl Body for YesBody {
 }
 
 impl<B: Body> WithMac<B> {
-    /// One line more, at the end. Where it is refused, nothing changes.
+    /// One line more, at the end. Where the body refuses it (it can't be read, may not stand there, or there is no room), nothing changes.
     pub fn add(&mut self, line: &[u8]) -> Result<(), Fault>
         ensures added { ChangedAs (maced_view B.view) (added B.longer (maced_view B.view self.old) line.now) self.old result self.new }
         ensures right { (s : Secrets) → Right s (B.thing (maced_view B.view self.old)) → Right s (B.thing (maced_view B.view self.new)) }
