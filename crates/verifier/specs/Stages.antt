@@ -1,5 +1,5 @@
 -- The stages of the house's verdict, as the code passes them on. Assumes nothing.
-use Rattle.std.specs.Prelude.{◌≡◌, Bool, true, ◌&&◌, List, is_some}
+use Rattle.std.specs.Prelude.{◌≡◌, Bool, true, ◌&&◌, List, is_some, Ok, Err, Result}
 use Rattle.narrow.specs.Rows.{all}
 use Rattle.narrow.specs.Term.{Bytes}
 use Rattle.narrow.specs.Ticket as model
@@ -12,7 +12,13 @@ use Rattle.book.specs.declared.held.Book.{Book}
 use Rattle.book.specs.Booking.{secrets_of}
 use Rattle.book.specs.Views.{book_view}
 use Rattle.showing.specs.Showing.{ShownView}
-use Rattle.verifier.specs.Verdict.{right_mac, known_keys, right_ties}
+use Rattle.std.specs.declared.alloc.AllocError.{AllocError}
+use Rattle.lines.specs.declared.Fault.{Fault}
+use Rattle.trouble.specs.declared.Trouble.{Trouble}
+use Rattle.trouble.specs.declared.Trouble.TheVariants as trouble
+use Rattle.verifier.specs.declared.State.{State}
+use Rattle.verifier.specs.declared.Refusal.TheVariants as refusal
+use Rattle.verifier.specs.Verdict.{Verdict, right_mac, known_keys, right_ties}
 
 -- the secrets of a book
 abbrev pub secrets : Book → Secrets
@@ -35,3 +41,9 @@ known_tie s mac y = is_some (s.key y.of.key) && tie_is s mac y
 -- each of them is so tied
 abbrev pub tied_to : Secrets → Bytes → List Tied → Bool
 tied_to s mac ys = all (tie_is s mac) ys
+
+-- the answer for what can't be read: its fault, with the state as it was; only want of memory is an error
+abbrev pub Unreadable : Trouble Fault → State → Result (Verdict × State) AllocError → Type 0
+Unreadable (trouble.Unreadable f) s r = r ≡ Ok (Err (refusal.Unread f), s)
+Unreadable trouble.NoMemory s (Ok p) = ⊥
+Unreadable trouble.NoMemory s (Err e) = Unit {0}

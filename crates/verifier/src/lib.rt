@@ -4,7 +4,7 @@
 ghost use Rattle.showing.specs.Views.{shown_view};
 ghost use Rattle.std.specs.Prelude.{◌≡◌, Ok, IfOk};
 ghost use Rattle.verifier.specs.Laws.{LetThrough, Why, ThroughExactly, VerdictExactly, LineNoMore};
-ghost use Rattle.verifier.specs.Stages.{secrets};
+ghost use Rattle.verifier.specs.Stages.{secrets, Unreadable};
 ghost use Rattle.verifier.specs.Verdict.{by_lines, verdict_on, verdict};
 ghost use Rattle.verifier.specs.declared.Refusal.TheVariants.{Unmet};
 
@@ -12,7 +12,8 @@ mod macs;
 mod right;
 
 use book::Book;
-use judging::{Failing, judge};
+pub use judging::Failing;
+use judging::judge;
 use lines::Fault;
 pub use macs::Macs;
 pub use right::{Right, check};
@@ -61,26 +62,34 @@ pub fn admit(
     ensures through { IfOk result (λ p. (p.0 ≡ Ok tt → LetThrough (secrets book.now) bytes.now) × (LetThrough (secrets book.now) bytes.now → p.0 ≡ Ok tt)) }
     ensures why { IfOk result (λ p. Why (secrets book.now) bytes.now p.0) }
 {
-    let verdict = match read_shown(heap, bytes) {
-        Ok(shown) => verdict_on(book, shown),
-        Err(Unread::Unreadable(fault)) => Err(Refusal::Unread(fault)),
-        Err(Unread::NoMemory) => return Err(AllocError),
-    };
-    Ok((verdict, state))
+    match read_shown(heap, bytes) {
+        Ok(shown) => Ok((verdict_on(book, shown), state)),
+        Err(unread) => not_read(unread, state),
+    }
+}
+
+// What can't be read is refused.
+fn not_read(unread: Unread, state: State) -> Result<(Verdict, State), AllocError>
+    ensures { Unreadable unread state result }
+{
+    match unread {
+        Unread::Unreadable(fault) => Ok((Err(Refusal::Unread(fault)), state)),
+        Unread::NoMemory => Err(AllocError),
+    }
 }
 
 // The verdict on what could be read.
 fn verdict_on(book: &Book, shown: Shown) -> Verdict
     ensures { result ≡ verdict_on (secrets book.now) (shown_view shown) }
 {
-    let right = check(book, shown)?;
-    by_lines(&right.shown)
+    by_lines(&check(book, shown)?)
 }
 
-// The stage of lines.
-fn by_lines(shown: &Shown) -> Verdict
-    ensures { result ≡ by_lines (shown_view shown.now) }
+// The stage of lines, after that of MACs.
+fn by_lines(right: &Right) -> Verdict
+    ensures { result ≡ by_lines (shown_view right.now.shown) }
 {
+    let shown = &right.shown;
     judge(shown.wish, &shown.ticket.body, shown.yeses.as_slice())?;
     Ok(())
 }

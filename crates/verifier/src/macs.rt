@@ -8,7 +8,7 @@ use hmac::Mac;
 use rows::Lines;
 
 /// All MACs of a row, from the one that it starts with to that of its last line.
-// An array and a count, since MACs are checked without a heap.
+// An array and a count: `ArrayVec` is not `Copy`, as this is, and asks for a `Default`, which a MAC hasn't.
 #[derive(Clone, Copy)]
 pub struct Macs {
     each: [Mac; 33],

@@ -20,7 +20,7 @@ lines_are s lent j same e =
 pub returns-in_err-judge : goal.returns-in_err-judge
 returns-in_err-judge c =
     let p = err_from_is_err_and c.from_residual.result c.from_residual.ensures.1 in
-    rw (p.1, p.2) (lines_are c.args.shown.now _ _ c.as_slice.ensures.value c.in_err-judge.ensures.value)
+    rw (p.1, p.2) (lines_are c.args.right.now.shown _ _ c.as_slice.ensures.value c.in_err-judge.ensures.value)
 
 pub returns : goal.returns
-returns c = lines_are c.args.shown.now _ _ c.as_slice.ensures.value c.in_ok-judge.ensures.value
+returns c = lines_are c.args.right.now.shown _ _ c.as_slice.ensures.value c.in_ok-judge.ensures.value

@@ -15,4 +15,4 @@ passed s v p = cond-true (right_mac s v.ticket) _ _ p.mac ∙ (cond-true (known_
 
 pub returns : goal.returns
 returns c =
-    c.by_lines.ensures ∙ (ap (λ (v : Shown). by_lines (shown_view v)) c.in_ok-right.ensures.0 ∙ sym (passed (secrets c.args.book.now) (shown_view c.args.shown) c.in_ok-right.ensures.1))
+    c.by_lines.ensures ∙ (ap (λ (v : Shown). by_lines (shown_view v)) c.in_ok-check.ensures.0 ∙ sym (passed (secrets c.args.book.now) (shown_view c.args.shown) c.in_ok-check.ensures.1))
