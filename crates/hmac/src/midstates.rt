@@ -1,7 +1,6 @@
 // HMAC's two hashes, each taken up after the key's block. The blocks are made for every kind of word: in each lane they are those
 // of one key and one digest.
 ghost use Rattle.std.specs.Prelude.{◌≡◌, ℕ, ◌*◌, ◌<◌, List, [], ◌∷◌, ◌++◌, map, length, replicate, bit_xor, slice_index};
-ghost use Rattle.sha256.specs.Blocks.{finished};
 ghost use Rattle.hmac.specs.Midstates.{midstate, mac_from};
 ghost use Rattle.sha256.specs.Sha256.{words, bytes};
 

@@ -1,8 +1,9 @@
 -- Four requests and their MACs, place by place.
 -- Assumes nothing.
-use Rattle.std.proofs.Common.{◌≡◌, ℕ, zero, suc, ◌<◌, List, [], ◌∷◌, map, length, get_or, sym, refl, ◌∙◌, subst, arith}
+use Rattle.std.proofs.Common.{◌≡◌, ℕ, zero, suc, ◌<◌, List, [], ◌∷◌, map, length, get_or, sym, refl, ap, ◌∙◌, subst, arith}
 use Rattle.sha256.specs.Blocks.{remaining}
 use Rattle.sha256.specs.Sha256.{words}
+use Rattle.sha256.proofs.Absorbing.{words_length}
 use Rattle.hmac4.specs.Lanes.{IsKeyOf, lane}
 use Rattle.hmac4.specs.declared.Request.{Request}
 
@@ -15,10 +16,12 @@ pub record Served (keys blocks : List (List ℕ)) (l : ℕ) (r : Request) : Type
 abbrev pub Lane : List Request → List (List ℕ) → List (List ℕ) → ℕ → Type 0
 Lane rs keys blocks l = (r : Request) → Served keys blocks l (get_or rs l r)
 
-pub lane_is : (rs : List Request) (keys blocks : List (List ℕ)) (l : ℕ) (x y : Request) (kw block : List ℕ) → ((d : Request) → get_or rs l d ≡ x) → ((d : Request) → get_or rs l d ≡ y) → (length x.message.now < 56) × (block ≡ words 16 (remaining 64 x.message.now)) → IsKeyOf y.key.bytes kw → lane l keys ≡ kw → lane l blocks ≡ block → Lane rs keys blocks l
+pub lane_is : (rs : List Request) (keys blocks : List (List ℕ)) (l : ℕ) (x y : Request) (kw block : List ℕ) → ((d : Request) → get_or rs l d ≡ x) → ((d : Request) → get_or rs l d ≡ y) → (length x.message.now < 56) × (block ≡ words 16 (remaining 64 x.message.now)) → IsKeyOf y.key.bytes kw → (length kw ≡ 8 → lane l keys ≡ kw) → (length block ≡ 16 → lane l blocks ≡ block) → Lane rs keys blocks l
 lane_is rs keys blocks l x y kw block ex ey s k ek eb r =
     let same : y ≡ x = sym (ey r) ∙ ex r in
-    rw (ex r) (record { key = rw ek (subst (λ (z : Request). IsKeyOf z.key.bytes kw) same k); short = s.0; block = eb ∙ s.1 })
+    let nk : lane l keys ≡ kw = ek (ap length k.words_are ∙ words_length 8 y.key.bytes) in
+    let nb : lane l blocks ≡ block = eb (ap length s.1 ∙ words_length 16 (remaining 64 x.message.now)) in
+    rw (ex r) (record { key = rw nk (subst (λ (z : Request). IsKeyOf z.key.bytes kw) same k); short = s.0; block = nb ∙ s.1 })
 
 pub maps_agree : {A B : Type 0} {C : Type 0} (f : A → C) (g : B → C) (xs : List A) (ys : List B) → length xs ≡ length ys → ((i : ℕ) (a : A) (b : B) → i < length xs → f (get_or xs i a) ≡ g (get_or ys i b)) → map f xs ≡ map g ys
 maps_agree f g [] [] n same = refl

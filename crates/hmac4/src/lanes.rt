@@ -1,5 +1,5 @@
 // Four MACs at once: keys, messages and digests carried over to the lanes and back.
-ghost use Rattle.std.specs.Prelude.{◌≡◌, ℕ, ◌<◌, List, [], ◌∷◌, length, replicate, slice_index};
+ghost use Rattle.std.specs.Prelude.{◌≡◌, ℕ, ◌<◌, List, [], ◌∷◌, length, replicate, slice_index, slice_index_or};
 ghost use Rattle.sha256.specs.Blocks.{remaining};
 ghost use Rattle.hmac.specs.Hmac.{hmac_of};
 ghost use Rattle.sha256.specs.Sha256.{words, bytes};
@@ -12,22 +12,14 @@ use std::array;
 use std::simd::prelude::*;
 
 // The words of four rows, one row to a lane.
-pub(crate) fn gather<const N: usize>(
-    a: [u32; N],
-    b: [u32; N],
-    c: [u32; N],
-    d: [u32; N],
-) -> [u32x4; N]
-    ensures first { lane 0 result ≡ a.entry }
-    ensures second { lane 1 result ≡ b.entry }
-    ensures third { lane 2 result ≡ c.entry }
-    ensures fourth { lane 3 result ≡ d.entry }
+pub(crate) fn gather<const N: usize>(rows: [[u32; N]; 4]) -> [u32x4; N]
+    ensures { (l : ℕ) → l < 4 → length (slice_index_or rows.entry l []) ≡ N → lane l result ≡ slice_index_or rows.entry l [] }
 {
     array::from_fn(
         |i: usize| -> u32x4
             requires { i < N }
-            ensures { result ≡ slice_index a i ∷ slice_index b i ∷ slice_index c i ∷ slice_index d i ∷ [] }
-        { u32x4::from_array([a[i], b[i], c[i], d[i]]) },
+            ensures { result ≡ slice_index (slice_index_or rows 0 []) i ∷ slice_index (slice_index_or rows 1 []) i ∷ slice_index (slice_index_or rows 2 []) i ∷ slice_index (slice_index_or rows 3 []) i ∷ [] }
+        { u32x4::from_array([rows[0][i], rows[1][i], rows[2][i], rows[3][i]]) },
     )
 }
 

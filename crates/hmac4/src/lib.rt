@@ -15,7 +15,7 @@ use sha256::words::{from_bytes, short_block, to_bytes};
 use std::array;
 
 // A message, and the key that it is to be authenticated under.
-#[derive(Clone, Copy)]
+#[derive(Clone, Copy, Debug)]
 pub struct Request<'a> {
     pub key: Mac,
     pub message: &'a [u8],
@@ -29,11 +29,11 @@ pub fn mac_four(requests: [Request; 4]) -> [Mac; 4]
     let [Some(p), Some(q), Some(r), Some(s)] = requests.map(|r| short_block(r.message)) else {
         return requests.map(|r| r.key.mac(r.message));
     };
-    let [a, b, c, d] = requests.map(
+    let keys = requests.map(
         |r: Request| -> [u32; 8]
             ensures { IsKeyOf r.entry.key.bytes result }
         { from_bytes(r.key.bytes()) },
     );
-    let v = macs(gather(a, b, c, d), gather(p, q, r, s));
+    let v = macs(gather(keys), gather([p, q, r, s]));
     array::from_fn(|l| Mac::new(to_bytes(scatter(v, l))))
 }

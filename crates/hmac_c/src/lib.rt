@@ -2,7 +2,7 @@
 // Each fills `out` and answers true, or answers false and writes nothing where a key or `out` has not its length.
 #![tactic(auto)]
 
-ghost use Rattle.std.specs.Prelude.{◌≡◌, ◌+◌, ◌*◌, ◌≤◌, ◌++◌, length, take, drop, Decides, MatchBool};
+ghost use Rattle.std.specs.Prelude.{◌≡◌, ◌++◌, length, take, drop, Decides, MatchBool};
 ghost use Rattle.hmac.specs.Hmac.{hmac_of};
 ghost use Rattle.sha256.specs.Sha256.{sha256};
 

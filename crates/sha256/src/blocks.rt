@@ -1,5 +1,5 @@
 // Messages as blocks: words, the hash value over whole blocks, and the padding of the last ones.
-ghost use Rattle.std.specs.Prelude.{◌≡◌, ◌+◌, ◌-◌, ◌*◌, ◌/◌, ◌%◌, ◌<◌, ◌≤◌, ◌∷◌, ◌++◌, length, take, replicate};
+ghost use Rattle.std.specs.Prelude.{◌≡◌, ◌-◌, ◌*◌, ◌<◌, ◌≤◌, ◌∷◌, ◌++◌, length, take, replicate};
 ghost use Rattle.sha256.specs.Blocks.{finished};
 ghost use Rattle.sha256.specs.Sha256.{words, compressed, eight};
 ghost use Rattle.std.specs.List.{fold};
