@@ -89,7 +89,7 @@ impl Wish {
         ensures writes { WritesFront (wish_bytes (wish_view self)) out.old out.new result }
         ensures possible { in_range (wish_view self) ≡ true }
     {
-        // At places, not appended: what is lent has no end that moves.
+        // Place by place, as what is lent can't be appended to (no heap).
         let name = self.name.as_slice();
         let length = self.len();
         if out.len() < length {
