@@ -7,7 +7,8 @@ mod tests {
     use std::alloc::{AllocError, Global};
     use std::test::Fail;
 
-    // The statements with their lines' numbers, and the fault.
+    // The statements with their lines' numbers, and the fault. The like of it in `scripts_tests` speaks of other statements; a
+    // crate for both would be longer than the two.
     fn summary(heap: Global, text: &str) -> Result<String, AllocError> {
         let script = read_script(heap, text)?;
         let mut said = String::new(heap);

@@ -99,6 +99,7 @@ museum 1 day 1 minute 0 persons 1 name ada lace -> too many words
         }
     }
 
+    // Each table has a loop of its own, as only a test's own runtime asserts.
     #[test]
     fn lines_in_words(rt: HostRuntime) -> Result<(), Fail> {
         for row in LINES.split('\n') {
