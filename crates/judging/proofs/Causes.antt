@@ -3,12 +3,13 @@ use Rattle.std.proofs.Common.{◌≡◌, ℕ, zero, suc, ◌<◌, Bool, true, fa
 use mathlib.Core.List.{Memᴰ}
 use Rattle.std.specs.List.{position, position_or_len}
 use Rattle.std.proofs.lemmas.Bool.{and_parts, and_from, eqb-true, eq-eqb, not-true, not_from_false, false_from_ne_true, true_from_ne_false, iff_false, cond-true, cond-false, ltb-true, ltb-false, lt-ltb, le-ltb}
-use Rattle.std.proofs.lemmas.List.Sums.{position_or_len_is, fails_before_first, passes_at_first}
+use Rattle.std.proofs.lemmas.List.{get_or_default}
+use Rattle.std.proofs.lemmas.List.Sums.{list_all-from_AllPass, AllPass-from_list_all, position_or_len_is, fails_before_first, passes_at_first}
 use Rattle.narrow.specs.Rows.{any, all}
 use Rattle.narrow.specs.Term.{Bytes}
 use Rattle.narrow.specs.Ticket.{Yes}
 use Rattle.narrow.specs.Policy.{Says, Limit, Else, Unreadable, Meaning, met, no_key, holds, serves, today}
-use Rattle.narrow.proofs.Rows.{contradiction, any_in, any_from, all_at, all_from}
+use Rattle.narrow.proofs.Rows.{contradiction, any_in, any_from, all_at, all_from, all_list}
 use Rattle.judging.specs.declared.Failing.TheVariants.{LimitFails, NoYes, NoneHolds}
 use Rattle.judging.specs.Judged.{some_yes, some_holds, limit_fails, else_fails, Judgement, placed, judged}
 use Rattle.judging.specs.Laws.{Holds, BadLimit, Lacking, Unheld, Least, Nowhere, Cause, JudgedRight}
@@ -164,16 +165,12 @@ module _ (v : Meaning) (ls : List Bytes) (ys : List Yes) where
       by Unreadable e q bad = contradiction (cc)
 
 -- a test of each place of a row, and of the whole row
-all_places : (f : Bytes → Bool) (ls : List Bytes) → ((i : ℕ) → i < length ls → f (get_or ls i []) ≡ true) → all f ls ≡ true
-unfolding all
-all_places f [] each = refl
-all_places f (l ∷ ls) each = and_from (f l) (all f ls) (each 0 (omega arith)) (all_places f ls (λ i h. each (suc i) (omega arith)))
+module _ (f : Bytes → Bool) (ls : List Bytes) where
+  all_places : ((i : ℕ) → i < length ls → f (get_or ls i []) ≡ true) → all f ls ≡ true
+  all_places each = all_list f ls ∙ list_all-from_AllPass f ls (λ i d h. ap f (get_or_default ls i d [] h) ∙ each i h)
 
-all_place : (f : Bytes → Bool) (ls : List Bytes) (i : ℕ) → all f ls ≡ true → i < length ls → f (get_or ls i []) ≡ true
-unfolding all
-all_place f [] i e h = absurd (omega arith)
-all_place f (l ∷ ls) zero e h = (and_parts (f l) (all f ls) e).0
-all_place f (l ∷ ls) (suc i) e h = all_place f ls i (and_parts (f l) (all f ls) e).1 (omega arith)
+  all_place : all f ls ≡ true → (i : ℕ) → i < length ls → f (get_or ls i []) ≡ true
+  all_place e i h = AllPass-from_list_all f ls (sym (all_list f ls) ∙ e) i [] h
 
 pub judged_right : JudgedRight
 judged_right v ls ys =
@@ -184,8 +181,8 @@ judged_right v ls ys =
       each_met =
           λ e.
           exactly v ls ys (Ok tt) (
-            λ i h. (met_good v ls ys (get_or ls i []) (all_place _ ls i e h)).0,
-            λ i h. (met_good v ls ys (get_or ls i []) (all_place _ ls i e h)).1,
-            λ i h. (met_good v ls ys (get_or ls i []) (all_place _ ls i e h)).2,
+            λ i h. (met_good v ls ys (get_or ls i []) (all_place _ ls e i h)).0,
+            λ i h. (met_good v ls ys (get_or ls i []) (all_place _ ls e i h)).1,
+            λ i h. (met_good v ls ys (get_or ls i []) (all_place _ ls e i h)).2,
           );
     }
