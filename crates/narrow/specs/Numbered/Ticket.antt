@@ -1,4 +1,5 @@
 -- Tickets and yeses, what the house lets through, and what can be done with what was given.
+-- It has an Option and walks over rows of its own, so that the statement can be read alone, on nothing but numbers and lists.
 -- Assumes nothing.
 use Rattle.std.specs.Prelude.{ℕ, Bool, true, false, cond, ◌&&◌, ◌||◌, List, [], ◌∷◌, ◌++◌, ◌==◌}
 use mathlib.Core.List.{Memᴰ}
