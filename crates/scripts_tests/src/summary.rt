@@ -91,6 +91,7 @@ fn given_said(heap: Global, what: &Gift, from: &String, to: &String) -> Result<S
     }
 }
 
+// Unlike the names, the first line has nothing before it.
 fn lines_said(heap: Global, lines: &[Line]) -> Result<String, AllocError> {
     let mut said = String::new(heap);
     for line in lines {

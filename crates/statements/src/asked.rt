@@ -11,6 +11,7 @@ use std::alloc::Global;
 use words::parse_wish;
 
 /// A wish as it was typed, which may be out of range: that is told when it is played.
+// No one struct with `RawWish` over the kind of name: the fields of that are public, and these are private, as only what was typed is one.
 #[derive(Drop)]
 pub struct Asked {
     museum: u8,
