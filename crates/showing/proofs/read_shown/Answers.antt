@@ -1,4 +1,4 @@
-use Rattle.std.proofs.Common.{◌≡◌, true, false, Bool, [], ◌∷◌, map, length, Some, None, Ok, Err, vec_items, Option, Result, Vec, sym, refl, ap, ◌∙◌}
+use Rattle.std.proofs.Common.{◌≡◌, true, false, Bool, [], ◌∷◌, map, length, Some, None, Ok, Err, vec_items, Option, Vec, sym, refl, ap, ◌∙◌}
 use Rattle.std.specs.Prelude.{◌≢◌, MatchOption}
 use Rattle.std.specs.Borrow.{Bor}
 use Rattle.std.specs.declared.alloc.Global.{Global}
@@ -20,7 +20,7 @@ use Rattle.codec.specs.Things.{ticket}
 use Rattle.wishes.specs.Reading.{wish_of}
 use Rattle.wishes.specs.Views.{raw_view, wish_view, wish_read}
 use Rattle.wishes.specs.declared.wish.RawWish.{RawWish}
-use Rattle.showing.specs.Showing.{shown_kind, shown_of}
+use Rattle.showing.specs.Showing.{shown_kind}
 use Rattle.showing.specs.Views.{shown_view}
 use Rattle.showing.proofs.Shows.{not_read, more_left, out_of_range, all_read, other_kind, no_wish, no_ticket, no_yeses, parts_read}
 use Rattle.showing.proofs.read_shown.Goals as goal
