@@ -1,4 +1,6 @@
-use Rattle.std.proofs.Common.{◌≡◌, ℕ, Option, ◌+◌, ◌-◌, List, [], ◌∷◌, ◌++◌, length, None, Some, Ok, Err, sym, ap, ◌∙◌, arith}
+use Rattle.std.proofs.Common.{◌≡◌, ℕ, ◌<◌, Option, Result, ◌+◌, ◌-◌, List, [], ◌∷◌, ◌++◌, length, None, Some, Ok, Err, sym, ap, ◌∙◌, arith}
+use Rattle.std.specs.Prelude.{MatchOption}
+use Rattle.numbers.specs.Bytes.{two_bytes}
 use Rattle.std.proofs.lemmas.List.{nil_from_length}
 use Rattle.std.proofs.lemmas.Option.{MatchOption-at_some, MatchOption-at_none}
 use Rattle.std.proofs.lemmas.Bool.{eqb-true, eqb-false}
@@ -17,6 +19,14 @@ use Rattle.book.specs.Views.{book_view}
 use Rattle.book.proofs.Books.{not_read, more_left, all_read, other_kind, no_house, no_count, faulty_keys, keys_read, keys_on, keys_stop}
 use Rattle.book.proofs.Keyed.{new_key_only, done_reading}
 use Rattle.book.proofs.read_book.Goals as goal
+
+-- the count, as it was read
+count_read : (o : Option ℕ) (n : ℕ) (before after : Bytes) → o ≡ Some n → MatchOption o ((length before < 2) × (after ≡ before)) (λ m. before ≡ two_bytes m ++ after) → two_byte.read before ≡ Ok (n, after)
+count_read o n before after some read = ap two_byte.read (MatchOption-at_some _ _ n some read) ∙ two_byte_join n after
+
+-- the keys are read from a book that has none
+keys_begun : (v : BookView) (house : Bytes) (n : ℕ) (bs : Bytes) (r : Result (List KeyView × Bytes) Fault) → v ≡ record { house = house; keys = [] } → keys_from n v.keys bs ≡ r → keys_from n [] bs ≡ r
+keys_begun v house n bs r none same = ap (λ (b : BookView). keys_from n b.keys bs) (sym none) ∙ same
 
 pub returns-in_err-read_kind : goal.returns-in_err-read_kind
 returns-in_err-read_kind c =
@@ -40,10 +50,8 @@ returns-in_err-count c =
 pub returns-in_err-key : goal.returns-in_err-key
 returns-in_err-key c =
     let kind = sym c.new-reader.ensures ∙ c.in_ok-read_kind.ensures in
-    let some : c.number.result ≡ Some c.in_ok-count.count = grind arith in
-    let many = ap two_byte.read (MatchOption-at_some _ _ c.in_ok-count.count some c.number.ensures) ∙ two_byte_join c.in_ok-count.count c.number.new.self.rest.now in
-    let none = ap (λ (b : BookView). b.keys) c.new-book.ensures in
-    let run = ap (λ (ks : List KeyView). keys_from c.in_ok-count.count ks c.number.new.self.rest.now) (sym none) ∙ c.loop.invariant.1 in
+    let many = count_read _ c.in_ok-count.count c.read.new.reader.rest.now c.number.new.self.rest.now c.in_ok-count.ensures.ok_part c.number.ensures in
+    let run = keys_begun _ _ _ _ _ c.new-book.ensures c.loop.invariant.1 in
     let left = c.in_ok-count.count - c.loop.counter in
     let stop = keys_stop left (keys_view c.loop.book.keys.entries) c.loop.reader.rest.now (omega (arith, c.loop-test.true)) _ c.in_err-key.ensures in
     stops book_view c.from_residual-in_err-key.result c.from_residual-in_err-key.ensures.1 (sym (not_read c.args.bytes.now _ (faulty_keys c.args.bytes.now _ kind _ _ c.in_ok-house.ensures _ _ many _ (run ∙ stop))))
@@ -66,10 +74,8 @@ loop-preserved c =
 pub returns-then-not-is_empty : goal.returns-then-not-is_empty
 returns-then-not-is_empty c =
     let kind = sym c.new-reader.ensures ∙ c.in_ok-read_kind.ensures in
-    let some : c.number.result ≡ Some c.in_ok-count.count = grind arith in
-    let many = ap two_byte.read (MatchOption-at_some _ _ c.in_ok-count.count some c.number.ensures) ∙ two_byte_join c.in_ok-count.count c.number.new.self.rest.now in
-    let none = ap (λ (b : BookView). b.keys) c.new-book.ensures in
-    let run = ap (λ (ks : List KeyView). keys_from c.in_ok-count.count ks c.number.new.self.rest.now) (sym none) ∙ c.loop.invariant.1 in
+    let many = count_read _ c.in_ok-count.count c.read.new.reader.rest.now c.number.new.self.rest.now c.in_ok-count.ensures.ok_part c.number.ensures in
+    let run = keys_begun _ _ _ _ _ c.new-book.ensures c.loop.invariant.1 in
     let done = done_reading (c.in_ok-count.count - c.loop.counter) (keys_view c.loop.book.keys.entries) c.loop.reader.rest.now (omega (arith, c.loop-test.false)) in
     sym (more_left c.args.bytes.now _ _ (keys_read c.args.bytes.now _ kind _ _ c.in_ok-house.ensures _ _ many _ _ (run ∙ done))
     (λ e. eqb-false _ _ (sym c.if-not-is_empty.ensures) (ap length e)))
@@ -77,10 +83,8 @@ returns-then-not-is_empty c =
 pub returns : goal.returns
 returns c =
     let kind = sym c.new-reader.ensures ∙ c.in_ok-read_kind.ensures in
-    let some : c.number.result ≡ Some c.in_ok-count.count = grind arith in
-    let many = ap two_byte.read (MatchOption-at_some _ _ c.in_ok-count.count some c.number.ensures) ∙ two_byte_join c.in_ok-count.count c.number.new.self.rest.now in
-    let none = ap (λ (b : BookView). b.keys) c.new-book.ensures in
-    let run = ap (λ (ks : List KeyView). keys_from c.in_ok-count.count ks c.number.new.self.rest.now) (sym none) ∙ c.loop.invariant.1 in
+    let many = count_read _ c.in_ok-count.count c.read.new.reader.rest.now c.number.new.self.rest.now c.in_ok-count.ensures.ok_part c.number.ensures in
+    let run = keys_begun _ _ _ _ _ c.new-book.ensures c.loop.invariant.1 in
     let done = done_reading (c.in_ok-count.count - c.loop.counter) (keys_view c.loop.book.keys.entries) c.loop.reader.rest.now (omega (arith, c.loop-test.false)) in
     let house = c.loop.invariant.0 ∙ ap (λ (b : BookView). b.house) c.new-book.ensures in
     sym (all_read c.args.bytes.now _ _ (keys_read c.args.bytes.now _ kind _ _ c.in_ok-house.ensures _ _ many _ _ (run ∙ done))
