@@ -1,5 +1,5 @@
 -- Tickets and yeses, what the house lets through, and what can be done with what was given.
--- It has an Option and walks over rows of its own, so that the statement can be read alone, on nothing but numbers and lists.
+-- Rows are written out here, as in `limit_lines` and `ties_of`, since the statement of `Main` is made of them and stands whole (docs/DECISIONS.md, "Two models").
 -- Assumes nothing.
 use Rattle.std.specs.Prelude.{ℕ, Bool, true, false, cond, ◌&&◌, ◌||◌, List, [], ◌∷◌, ◌++◌, ◌==◌}
 use mathlib.Core.List.{Memᴰ}
@@ -165,6 +165,7 @@ abbrev pub can : Holds → ℕ → Given → Bool
 can h q g = any_can h q g (g.tickets ++ tied_tickets g.tickets g.tied)
 
 -- what to show: the first ticket by which it can be done, and for each line that asks for a yes one without limits if there is the key, else the first given one that holds, else the first tied to just this ticket
+-- a type of its own and not `Option`, as the statement of `Main` has it, like the rows above
 pub data Maybe : Type 0 where
   None : Maybe
   Some : Shown → Maybe
