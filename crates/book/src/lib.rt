@@ -52,7 +52,8 @@ impl Book {
     pub fn add(&mut self, key: YesKey) -> Result<(), AddError>
         ensures { Added (book_view self.old) (key_view key) (book_view self.new) result }
     {
-        // By the map's `entry` there would be two ways of putting a key, as `read_book` puts those whose numbers it has asked.
+        // By the map's `entry` there would be two ways of putting a key, as `read_book` puts keys whose
+        // numbers it has looked up already.
         if self.secret(key.number).is_some() {
             return Err(AddError::Taken);
         }
@@ -89,7 +90,7 @@ pub fn read_book(heap: Global, bytes: &[u8]) -> Result<Book, Unread>
     let house = Mac::read(&mut reader)?;
     let count = reader.number::<u16, _>().ok_or(Fault::Shape)?;
     let mut book = Book::new(heap, house);
-    // As a chain, its closure would change the reader, and a proof learns nothing of what a closure changes.
+    // In a chain, the closure would change the reader, and a proof learns nothing of what a closure changes.
     for _ in 0..count {
         let key = read_key(&mut reader, &book)?;
         book.put(key)?;

@@ -57,7 +57,8 @@ impl Coded for TiedYes {
     }
 }
 
-// This and the next differ in their types alone. As one impl they would be a generic pair with a kind, whose fields had no names.
+// This and the next differ only in their kind and their types. As one impl they would be of a generic pair with a kind, whose
+// fields would have no names.
 impl Coded for PassedYes {
     ghost View = { model.Ticket × Tied };
 

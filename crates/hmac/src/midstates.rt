@@ -15,7 +15,8 @@ pub const INNER: u32 = 0x36363636;
 
 pub const OUTER: u32 = 0x5c5c5c5c;
 
-// The block of a key, from its words, mixed with `pad`. At a type parameter `map` would ask a bound on the words' size of callers.
+// The block of a key, from its words, mixed with `pad`. At a type parameter `map` would ask
+// callers for a bound on the words' size.
 pub fn key_block<W: Word>(key: [W; 8], pad: u32) -> [W; 16]
     ensures { (l : ℕ) → l < W.lanes → map (W.lane l) result ≡ map (λ x. bit_xor x pad) (map (W.lane l) key) ++ replicate 8 pad }
 {

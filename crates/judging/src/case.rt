@@ -43,7 +43,7 @@ impl Case<'_> {
     }
 
     /// The line is an else for which no yes's limits all hold.
-    // A match in both: with the else's key as an `Option`, and `is_some_and`, a proof learns nothing of what the closure answers.
+    // A match in both: with `is_some_and` on the else's key, each closure would say in a clause of its own what its function ensures.
     pub fn none_holds(&self, line: &[u8]) -> bool
         ensures { result ≡ else_fails (some_holds (says (wish_view self.now.wish)) (bodies self.now.yeses.now)) (says (wish_view self.now.wish) line.now) }
     {

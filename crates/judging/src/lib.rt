@@ -49,7 +49,7 @@ pub fn judge(wish: Wish, ticket: &TicketBody, yeses: &[TiedYes]) -> Result<(), F
 }
 
 // The place of the first line that fails.
-// By hand, as a rule of the project asks for a loop here that its label leaves (docs/DECISIONS.md, "How each place looks").
+// By hand, as a rule of the project asks for a loop here that is left by its label (docs/DECISIONS.md, "How each place looks").
 fn first_failing<F: Fn(&[u8]) -> bool>(lines: &Lines, fails: F) -> Option<usize>
     requires { F.IsAlwaysCallable fails }
     ensures { (test : Bytes → Bool) → ((x : Bor Bytes) (b : Bool) → F.post fails x b → b ≡ test x.now) → result ≡ position test (rows lines.now) }

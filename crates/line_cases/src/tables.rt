@@ -1,4 +1,5 @@
-// Bytes, and what is told of them: 0 if they are read, else the number of the fault.
+// Bytes, and what is told of them: 0 if they are read, else the number of the fault, as docs/FORMAT.md has it, which
+// the table is held to.
 
 pub const LINES: [(&[u8], u8); 56] = [
     // no kind, unknown kinds

@@ -15,66 +15,46 @@ fn wish_of(bytes: &[u8]) -> Result<Wish, Fault> {
 }
 
 // What was read is written as the bytes that it was read from, and leaves what follows as it was; with a byte too little it leaves all.
-fn writes_back<T: Copy, W: Fn(T, &mut [u8]) -> Option<usize>>(
-    rt: &impl Abort,
-    thing: T,
-    write: W,
-    bytes: &[u8],
-)
+fn writes_back<W: Fn(&mut [u8]) -> Option<usize>>(rt: &impl Abort, write: W, bytes: &[u8])
     requires { W.IsAlwaysCallable write }
 {
     let mut out = [7; 64];
-    assert_eq!(rt; write(thing, &mut out), Some(bytes.len()));
+    assert_eq!(rt; write(&mut out), Some(bytes.len()));
     assert!(rt; bytes.len() < 64);
     assert!(rt; &out[0..bytes.len()] == bytes);
     assert_eq!(rt; out[bytes.len()], 7);
     let mut short = [7; 64];
     assert!(rt; 0 < bytes.len());
-    assert_eq!(rt; write(thing, &mut short[0..bytes.len() - 1]), None);
+    assert_eq!(rt; write(&mut short[0..bytes.len() - 1]), None);
     assert_eq!(rt; short, [7; 64]);
 }
 
-// Of each row is told what stands beside it; and what is read has as many bytes, and is written back.
-fn told<
-    T: Copy,
-    R: Fn(&[u8]) -> Result<T, Fault>,
-    L: Fn(T) -> usize,
-    W: Fn(T, &mut [u8]) -> Option<usize> + Copy,
->(rt: &impl Abort, rows: &[(&[u8], u8)], read: R, len: L, write: W)
-    requires { R.IsAlwaysCallable read × L.IsAlwaysCallable len × W.IsAlwaysCallable write }
-{
-    for (bytes, fault) in rows {
-        match read(bytes) {
-            Ok(thing) => {
-                assert_eq!(rt; *fault, 0);
-                assert_eq!(rt; len(thing), bytes.len());
-                writes_back(rt, thing, write, bytes);
+#[test]
+fn lines_told(rt: HostRuntime) {
+    for (bytes, fault) in LINES {
+        match read_line(bytes) {
+            Ok(line) => {
+                assert_eq!(rt; fault, 0);
+                assert_eq!(rt; line.len(), bytes.len());
+                writes_back(&rt, |out: &mut [u8]| line.write(out), bytes);
             }
-            Err(met) => assert_eq!(rt; u8::from(met), *fault),
+            Err(met) => assert_eq!(rt; u8::from(met), fault),
         }
     }
 }
 
 #[test]
-fn lines_told(rt: HostRuntime) {
-    told(
-        &rt,
-        &LINES,
-        |bytes: &[u8]| read_line(bytes),
-        |line: Line| line.len(),
-        |line: Line, out: &mut [u8]| line.write(out),
-    );
-}
-
-#[test]
 fn wishes_told(rt: HostRuntime) {
-    told(
-        &rt,
-        &WISHES,
-        |bytes: &[u8]| wish_of(bytes),
-        |wish: Wish| wish.len(),
-        |wish: Wish, out: &mut [u8]| wish.write(out),
-    );
+    for (bytes, fault) in WISHES {
+        match wish_of(bytes) {
+            Ok(wish) => {
+                assert_eq!(rt; fault, 0);
+                assert_eq!(rt; wish.len(), bytes.len());
+                writes_back(&rt, |out: &mut [u8]| wish.write(out), bytes);
+            }
+            Err(met) => assert_eq!(rt; u8::from(met), fault),
+        }
+    }
 }
 
 #[test]

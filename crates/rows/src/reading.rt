@@ -31,7 +31,7 @@ impl<'a> Reader<'a> {
             return Err(Fault::TooMany);
         }
         let mut lines = Lines::new(place);
-        // As a chain, its closure would change the row and the reader, and a proof learns nothing of what a closure changes.
+        // In a chain, the closure would change the row and the reader, and a proof learns nothing of what a closure changes.
         for _ in 0..count {
             let line = self.counted().ok_or(Fault::Shape)?;
             lines.push(line)?;

@@ -1,4 +1,4 @@
-// Rows of lines compared as they are carried.
+// Rows of lines compared as they are carried: a derive would compare what the arrays hold behind the last line, too.
 ghost use Rattle.std.specs.Prelude.{◌==◌};
 ghost use Rattle.std.specs.Ordering.{on};
 ghost use Rattle.std.specs.Cmp.Lexicographic.{pointwise};

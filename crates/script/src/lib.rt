@@ -26,6 +26,8 @@ pub enum Statement {
 }
 
 /// Why a line can't be read.
+// `scripts::Cause` has two cases like these, but its `HouseFirst` is also told of a statement that stands before `house`: one name for
+// both would say too much here.
 #[derive(Clone, Copy, PartialEq, Eq, Debug)]
 pub enum Cause {
     /// The statement's words.

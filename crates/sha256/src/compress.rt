@@ -86,7 +86,8 @@ fn advance<W: Word>(w: [W; 16]) -> [W; 16]
     ]
 }
 
-// Round t + j, by the word at j of the sixteen from t on.
+// Round t + j, by the word at j of the sixteen from t on. The variables, the words and the place stand beside one another in these
+// three functions alone; a struct of them would be made anew at each step.
 #[inline(always)]
 fn step<W: Word>(v: [W; 8], w: [W; 16], t: usize, j: usize) -> [W; 8]
     requires t { t ≤ 48 }

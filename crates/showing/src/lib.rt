@@ -58,7 +58,7 @@ fn read_yeses(heap: Global, reader: &mut Reader<'_>) -> Result<Vec<TiedYes>, Unr
         return Err(Unread::Unreadable(Fault::TooMany));
     }
     let mut yeses = Vec::new(heap);
-    // As a chain, its closure would change the reader, and a proof learns nothing of what a closure changes.
+    // In a chain, the closure would change the reader, and a proof learns nothing of what a closure changes.
     for _ in 0..count {
         let yes = TiedYes::read(reader)?;
         yeses.push(yes)?;

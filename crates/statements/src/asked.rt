@@ -11,7 +11,8 @@ use std::alloc::Global;
 use words::parse_wish;
 
 /// A wish as it was typed, which may be out of range: that is told when it is played.
-// No one struct with `RawWish` over the kind of name: the fields of that are public, and these are private, as only what was typed is one.
+// It is not one struct with `RawWish`, generic in the name: that one's fields are public, and these are private, so that only what
+// was typed is an `Asked`.
 #[derive(Drop)]
 pub struct Asked {
     museum: u8,

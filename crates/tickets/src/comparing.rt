@@ -6,7 +6,7 @@ ghost use Rattle.std.specs.Prelude.{◌≡◌};
 use crate::bodies::TicketBody;
 
 impl TicketBody {
-    /// Whether the two are one ticket.
+    /// Whether the two are one ticket: `==`, in the words of the model.
     pub fn same(&self, other: &TicketBody) -> bool
         ensures { result ≡ same_ticket (ticket_body self.now) (ticket_body other.now) }
     {

@@ -8,7 +8,7 @@ use hmac::Mac;
 use rows::Lines;
 
 /// All MACs of a row, from the one that it starts with to that of its last line.
-// An array and a count: `ArrayVec` is not `Copy`, as this is, and asks for a `Default`, which a MAC hasn't.
+// An array and a count: this is `Copy`, and `ArrayVec` is not; it also asks for a `Default`, which a MAC does not have.
 #[derive(Clone, Copy)]
 pub struct Macs {
     each: [Mac; 33],
@@ -23,6 +23,7 @@ pub fn work_out(start: Mac, lines: &Lines) -> Macs
 {
     let mut each = [start; 33];
     let count = lines.len();
+    // By its place, as each MAC needs the one before it.
     for (i, line) in lines.iter().enumerate() {
         each[i + 1] = each[i].mac(line);
     }

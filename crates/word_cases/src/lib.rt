@@ -88,6 +88,7 @@ museum 1 day 1 minute 0 persons 1 name ada lace -> too many words
         }
     }
 
+    // The like of it in `scripts_tests` prints a wish among other things; a crate for both would be longer than the two.
     fn wish_said(heap: Global, text: &str) -> Result<String, AllocError> {
         let raw = match parse_wish(text) {
             Ok(raw) => raw,
@@ -99,7 +100,7 @@ museum 1 day 1 minute 0 persons 1 name ada lace -> too many words
         }
     }
 
-    // Each table has a loop of its own, as only a test's own runtime asserts.
+    // Each table has a loop of its own: a function for both would need an `Abort` of its own.
     #[test]
     fn lines_in_words(rt: HostRuntime) -> Result<(), Fail> {
         for row in LINES.split('\n') {
