@@ -1,6 +1,6 @@
 // The compression of SHA-256 (FIPS 180-4, section 6.2.2), for every kind of word: in each lane it is that of one block.
 // Rounds and schedule go on by sixteen, and are written out four by four: in a loop the variables would change places in each
-// turn, which takes a tenth to a fifth of the speed.
+// turn, which costs a tenth to a fifth of the speed.
 ghost use Rattle.std.specs.Prelude.{◌≡◌, ℕ, ◌+◌, ◌<◌, ◌≤◌, List, map, length, bit_xor};
 ghost use Rattle.sha256.specs.Sha256.{◌⊞◌, Ch, Maj, rotr, shr, round, compressed};
 ghost use Rattle.sha256.specs.Stages.{advanced, window, Underway};
@@ -55,7 +55,8 @@ fn round<W: Word>(v: [W; 8], k: u32, w: W) -> [W; 8]
     [t1.plus(t2), a, b, c, d.plus(t1), e, f, g]
 }
 
-// The next sixteen words of the message schedule, moved on by one; written out, as a loop takes a tenth of the speed.
+// The next sixteen words of the message schedule, moved on by one. Written out: in a `for` loop one word takes twice the time, and
+// for `array::from_fn`, which is as fast, no proof closed.
 fn advance<W: Word>(w: [W; 16]) -> [W; 16]
     ensures { (l : ℕ) → l < W.lanes → map (W.lane l) result ≡ advanced (map (W.lane l) w) }
 {
