@@ -15,11 +15,13 @@ use std::simd::prelude::*;
 pub(crate) fn gather<const N: usize>(rows: [[u32; N]; 4]) -> [u32x4; N]
     ensures { (l : ℕ) → l < 4 → length (slice_index_or rows.entry l []) ≡ N → lane l result ≡ slice_index_or rows.entry l [] }
 {
+    let [p, q, r, s] = rows;
+    // One by one, as `map` over the rows would owe a bound on their size.
     array::from_fn(
         |i: usize| -> u32x4
             requires { i < N }
-            ensures { result ≡ slice_index (slice_index_or rows 0 []) i ∷ slice_index (slice_index_or rows 1 []) i ∷ slice_index (slice_index_or rows 2 []) i ∷ slice_index (slice_index_or rows 3 []) i ∷ [] }
-        { u32x4::from_array([rows[0][i], rows[1][i], rows[2][i], rows[3][i]]) },
+            ensures { result ≡ slice_index p i ∷ slice_index q i ∷ slice_index r i ∷ slice_index s i ∷ [] }
+        { u32x4::from_array([p[i], q[i], r[i], s[i]]) },
     )
 }
 

@@ -1,11 +1,11 @@
 -- The hash value over blocks: where a message may be cut, and its padding.
 -- Assumes nothing.
 use Rattle.std.proofs.Common.{inl, inr, ◌≡◌, ℕ, zero, suc, ◌+◌, ◌-◌, ◌*◌, ◌/◌, ◌%◌, ◌^◌, ◌<◌, ◌≤◌, List, [], ◌∷◌, ◌++◌, length, get_or, take, drop, set, replicate, sym, refl, ap, ◌∙◌, suc-add, zero-add, add-zero, add-one, mul-zero, mul-suc, add_comm, lit<, arith}
-use lib.Bits.{bit_and}
-use Rattle.std.specs.Int.{w32, from_be_bytes}
+use borrow.Rule.Slice.PartMut.{put_mid}
+use Rattle.std.specs.Int.{w32, w64, from_be_bytes, to_be_bytes}
 use Rattle.std.proofs.lemmas.Bool.{cases_lt}
-use Rattle.std.proofs.lemmas.Nat.{and_mask, field_of, shr-shr}
-use Rattle.std.proofs.lemmas.List.{length-append, length-take-le, length-drop, get_or_append_left, get_or-append_right, take-append-le, drop-append-le, drop_at, drop-drop, get_or-take, get_or-drop, set_at, drop-replicate, take-append-drop, take_all}
+use Rattle.std.proofs.lemmas.Nat.{field_of, shr-shr}
+use Rattle.std.proofs.lemmas.List.{length-append, length-take-le, length-drop, get_or_append_left, get_or-append_right, take-append-le, drop-append-le, drop_at, drop_all, drop-drop, get_or-take, get_or-drop, set_at, drop-replicate, take-append-drop, take_all}
 use Rattle.std.specs.List.{fold}
 use Rattle.std.specs.Simd.{first_chunks}
 use Rattle.sha256.specs.Sha256.{word, words, compressed, absorbed, eight}
@@ -50,22 +50,12 @@ words_front (suc n) x y h =
 pub from_bytes : (x : ℕ) → (x / 2 ^ 24 % 256) * 2 ^ 24 + (x / 2 ^ 16 % 256) * 2 ^ 16 + (x / 2 ^ 8 % 256) * 2 ^ 8 + x % 256 ≡ x % 2 ^ 32
 from_bytes x = omega (arith, shr-shr x 8 8, shr-shr x 16 8, shr-shr x 24 8)
 
--- the last two words of a last block
-pub sealed_words : (block : List ℕ) (bits : ℕ) → length block ≡ 64 → bits < 2 ^ 64 → set (set (words 16 block) 14 (bits / 2 ^ 32)) 15 (bit_and bits 0xffff_ffff) ≡ words 16 (take 56 block ++ eight bits)
-unfolding words word eight
-sealed_words block bits h l =
-    let x : List ℕ = take 56 block in
-    let n : length x ≡ 56 = length-take-le 56 block (omega arith) in
-    let front : words 14 (x ++ eight bits) ≡ words 14 x = words_front 14 x (eight bits) (omega arith) in
-    let same : words 14 block ≡ words 14 x = rw take-append-drop at (words_front 14 x (drop 56 block) (omega arith)) in
-    let at : (i : ℕ) → get_or (x ++ eight bits) (56 + i) 0 ≡ get_or (eight bits) (56 + i - 56) 0 =
-    λ i. get_or-append_right x (eight bits) 56 (56 + i) 0 n (omega arith) in
-    let high : bits / 2 ^ 32 ≡ word 14 (x ++ eight bits) =
-    omega (arith, at 0, at 1, at 2, at 3, from_bytes (bits / 2 ^ 32), shr-shr bits 32 24, shr-shr bits 32 16, shr-shr bits 32 8) in
-    let low : bit_and bits 0xffff_ffff ≡ word 15 (x ++ eight bits) =
-    omega (arith, and_mask bits 32, at 4, at 5, at 6, at 7, from_bytes bits) in
-    let e : words 14 block ++ (bits / 2 ^ 32) ∷ bit_and bits 0xffff_ffff ∷ [] ≡ words 14 (x ++ eight bits) ++ word 14 (x ++ eight bits) ∷ word 15 (x ++ eight bits) ∷ [] = cc in
-    e
+-- a block with the length in bits in its last eight bytes, as the code writes it
+pub sealed_is : (block x : List ℕ) (bits : ℕ) → length block ≡ 64 → x ≡ to_be_bytes w64 bits → put_mid 56 8 block x ≡ take 56 block ++ eight bits
+unfolding eight
+sealed_is block x bits n e =
+    let z : drop 8 (drop 56 block) ≡ [] = drop_all 8 (drop 56 block) (simp length-drop (omega arith)) in
+    rw (e, z) refl
 
 -- ---- blocks
 pub absorbed_more : (n : ℕ) (message h : List ℕ) → absorbed (n + 1) message h ≡ compressed (absorbed n message h) (words 16 (take 64 (drop (64 * n) message)))

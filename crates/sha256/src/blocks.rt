@@ -32,10 +32,9 @@ fn absorb(h: [u32; 8], blocks: &[[u8; 64]]) -> [u32; 8]
 pub(crate) fn sealed(block: [u8; 64], bits: u64) -> [u32; 16]
     ensures { result ≡ words 16 (take 56 block ++ eight bits) }
 {
-    let mut w = words(&block);
-    w[14] = (bits >> 32) as u32;
-    w[15] = (bits & 0xffff_ffff) as u32;
-    w
+    let mut block = block;
+    block[56..].copy_from_slice(&bits.to_be_bytes());
+    words(&block)
 }
 
 // The rest of a message, the bit 1, and zeros up to a block.
