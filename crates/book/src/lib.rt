@@ -96,7 +96,7 @@ pub fn read_book(heap: Global, bytes: &[u8]) -> Result<Book, Unread>
         book.put(key)?;
     }
     if !reader.is_empty() {
-        return Err(Unread::Unreadable(Fault::Shape));
+        return Err(Fault::Shape.into());
     }
     Ok(book)
 }

@@ -28,18 +28,17 @@ all_push place ls l h e =
 
 module _ (r : Lines) (l : Bytes) (room : r.count + 1 < length r.marks) (good : stands r.place l ≡ true) where
   -- a line that was written behind its length into the free end, of k bytes, which was lent for it
-  pub longer : (k size : ℕ) (out d : Bytes) → out ≡ (length l ∷ l) ++ d → size ≡ 1 + length l →
-      Longer r.place (rows r) l (put_mid (get_or r.marks r.count 0) k r.bytes out) (set r.marks (r.count + 1) (get_or r.marks r.count 0 + size)) (r.count + 1)
+  pub longer : (used k size : ℕ) (out d : Bytes) → used ≡ get_or r.marks r.count 0 → out ≡ (length l ∷ l) ++ d → size ≡ 1 + length l →
+      Longer r.place (rows r) l (put_mid used k r.bytes out) (set r.marks (r.count + 1) (used + size)) (r.count + 1)
   unfolding rows
-  longer k size out d e one =
-      let m = get_or r.marks r.count 0 + size in
-      let used = get_or r.marks r.count 0 in
+  longer used k size out d is e one =
+      let m = used + size in
       let post = post_of used k r.bytes in
       let bs = put_mid used k r.bytes out in
       let whole : bs ≡ wire (rows r) ++ ((length l ∷ l) ++ (d ++ post)) =
-      ap (λ (b : Bytes). b ++ (out ++ post)) (sym r.wired) ∙
+      ap (λ (b : Bytes). b ++ (out ++ post)) (ap (λ (n : ℕ). take n r.bytes) is ∙ sym r.wired) ∙
       (ap (λ (b : Bytes). wire (rows r) ++ (b ++ post)) e ∙ ap (λ (b : Bytes). wire (rows r) ++ b) (append_assoc (length l ∷ l) d post)) in
-      let mark : m ≡ length (wire (rows r)) + 1 + length l = omega (arith, row_used r, one) in
+      let mark : m ≡ length (wire (rows r)) + 1 + length l = omega (arith, is, row_used r, one) in
       let are = pushed_rows (rows r) l (d ++ post) bs r.count (row_count r) whole in
       record {
         are = are;

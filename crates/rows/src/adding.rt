@@ -1,5 +1,5 @@
 // Making a row longer, and its lines. Lengths are cast down by `as`, as it is proved that they fit: `try_from` would add a refusal that
-// can't be. Marks are cast up by it too: with `usize::from`, each bound on a mark takes one step more in its proof.
+// can't be.
 ghost use Rattle.std.specs.Prelude.{◌≡◌, ℕ, ◌+◌, ◌<◌, ◌≤◌, List, [], ◌∷◌, ◌++◌, length, drop, MatchOption, slice_index_or};
 ghost use Rattle.rows.specs.Due.{ChangedAs};
 ghost use Rattle.rows.specs.Row.{rows};
@@ -43,7 +43,7 @@ impl Lines {
     pub fn wire(&self) -> &[u8]
         ensures { result.now ≡ wire (rows self.now) }
     {
-        let used = self.marks[self.count] as usize;
+        let used = usize::from(self.marks[self.count]);
         &self.bytes[0..used]
     }
 
@@ -54,8 +54,8 @@ impl Lines {
         if i >= self.count {
             return None;
         }
-        let from = self.marks[i] as usize + 1;
-        let to = self.marks[i + 1] as usize;
+        let from = usize::from(self.marks[i]) + 1;
+        let to = usize::from(self.marks[i + 1]);
         Some(&self.bytes[from..to])
     }
 
@@ -72,7 +72,7 @@ impl Lines {
         if count >= most_lines(self.place) {
             return Err(Fault::TooMany);
         }
-        let used = self.marks[count] as usize;
+        let used = usize::from(self.marks[count]);
         let size = put_line(&mut self.bytes[used..], line);
         self.marks[count + 1] = (used + size) as u16;
         self.count = count + 1;

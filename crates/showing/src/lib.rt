@@ -38,7 +38,7 @@ pub fn read_shown(heap: Global, bytes: &[u8]) -> Result<Shown, Unread>
     let ticket = Ticket::read(&mut reader)?;
     let yeses = read_yeses(heap, &mut reader)?;
     if !reader.is_empty() {
-        return Err(Unread::Unreadable(Fault::Shape));
+        return Err(Fault::Shape.into());
     }
     let wish = raw.in_range().ok_or(Fault::Range)?;
     Ok(Shown {
@@ -55,7 +55,7 @@ fn read_yeses(heap: Global, reader: &mut Reader<'_>) -> Result<Vec<TiedYes>, Unr
 {
     let count = reader.byte().ok_or(Fault::Shape)?;
     if count > 32 {
-        return Err(Unread::Unreadable(Fault::TooMany));
+        return Err(Fault::TooMany.into());
     }
     let mut yeses = Vec::new(heap);
     // In a chain, the closure would change the reader, and a proof learns nothing of what a closure changes.

@@ -77,8 +77,9 @@ returns-then-not-is_empty c =
     let many = count_read _ c.in_ok-count.count c.read.new.reader.rest.now c.number.new.self.rest.now c.in_ok-count.ensures.ok_part c.number.ensures in
     let run = keys_begun _ _ _ _ _ c.new-book.ensures c.loop.invariant.1 in
     let done = done_reading (c.in_ok-count.count - c.loop.counter) (keys_view c.loop.book.keys.entries) c.loop.reader.rest.now (omega (arith, c.loop-test.false)) in
-    sym (more_left c.args.bytes.now _ _ (keys_read c.args.bytes.now _ kind _ _ c.in_ok-house.ensures _ _ many _ _ (run ∙ done))
-    (λ e. eqb-false _ _ (sym c.if-not-is_empty.ensures) (ap length e)))
+    rw c.into.ensures
+    (sym (more_left c.args.bytes.now _ _ (keys_read c.args.bytes.now _ kind _ _ c.in_ok-house.ensures _ _ many _ _ (run ∙ done))
+    (λ e. eqb-false _ _ (sym c.if-not-is_empty.ensures) (ap length e))))
 
 pub returns : goal.returns
 returns c =

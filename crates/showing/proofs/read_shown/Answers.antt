@@ -64,8 +64,9 @@ returns-in_err-yeses c =
 pub returns-then-not-is_empty : goal.returns-then-not-is_empty
 returns-then-not-is_empty c =
     let (kind, asked, at) = front_read _ _ _ _ _ _ _ c.in_ok-rest.ensures.ok_part (strip_prefix_is Decides-eqb c.args.bytes.now (shown_kind ∷ []) _ c.strip_prefix.ensures.cases) c.read_wish.ensures c.in_ok-raw.ensures.ok_part c.new-reader.ensures in
-    sym (more_left c.args.bytes.now _ _ (parts_read c.args.bytes.now _ kind _ _ asked _ _ (at ∙ c.in_ok-ticket.ensures) _ _ (sym c.in_ok-yeses.ensures.read))
-    (λ e. eqb-false _ _ (sym c.if-not-is_empty.ensures) (ap length e)))
+    rw c.into.ensures
+    (sym (more_left c.args.bytes.now _ _ (parts_read c.args.bytes.now _ kind _ _ asked _ _ (at ∙ c.in_ok-ticket.ensures) _ _ (sym c.in_ok-yeses.ensures.read))
+    (λ e. eqb-false _ _ (sym c.if-not-is_empty.ensures) (ap length e))))
 
 pub returns-in_err-wish : goal.returns-in_err-wish
 returns-in_err-wish c =

@@ -20,7 +20,7 @@ returns-in_err-count c =
 pub returns-then-count-gt32 : goal.returns-then-count-gt32
 returns-then-count-gt32 c =
     let head = MatchOption-at_some _ _ _ c.in_ok-count.ensures.ok_part c.byte.ensures in
-    record { read = sym (count_many tied most_yeses c.args.reader.now.rest.now _ _ head c.if-count-gt32.true); few = tt }
+    rw c.into.ensures (record { read = sym (count_many tied most_yeses c.args.reader.now.rest.now _ _ head c.if-count-gt32.true); few = tt })
 
 pub returns-in_err-yes : goal.returns-in_err-yes
 returns-in_err-yes c =

@@ -35,16 +35,17 @@ returns-then-count-most_lines c =
     }
 
 pub slice_bounds-put_line-count : goal.slice_bounds-put_line-count
-slice_bounds-put_line-count c = omega (arith, row_short c.args.self.now, row_few c.args.self.now)
+slice_bounds-put_line-count c = omega (arith, c.from-used.ensures, row_short c.args.self.now, row_few c.args.self.now)
 
 pub slice_bounds-put_line-start : goal.slice_bounds-put_line-start
-slice_bounds-put_line-start c = omega (arith, row_short c.args.self.now, row_few c.args.self.now)
+slice_bounds-put_line-start c = omega (arith, c.from-used.ensures, row_short c.args.self.now, row_few c.args.self.now)
 
 pub put_line-size-requires : goal.put_line-size-requires
 put_line-size-requires c =
     let long : length c.args.self.now.bytes ≡ 1120 = search rules in
     let good = stands_there c.args.self.now.place (rows c.args.self.now) c.args.line.now _ (sym c.in_ok-read.ensures.value) (sym c.if-not-may_stand.ensures) in
     let short = stands_short c.args.self.now.place c.args.line.now good in
+    let marked = c.from-used.ensures in
     let used = row_short c.args.self.now in
     let most = most_few c.args.self.now.place in
     let room = c.most_lines.ensures in
@@ -56,7 +57,7 @@ invariant_of-self c =
     let good = stands_there c.args.self.now.place (rows c.args.self.now) c.args.line.now _ (sym c.in_ok-read.ensures.value) (sym c.if-not-may_stand.ensures) in
     let most = most_few c.args.self.now.place in
     let room = c.most_lines.ensures in
-    let a = longer c.args.self.now c.args.line.now (omega arith) good _ _ c.put_line-size.new.out _ c.put_line-size.ensures.after c.put_line-size.ensures.value in
+    let a = longer c.args.self.now c.args.line.now (omega arith) good _ _ _ c.put_line-size.new.out _ c.from-used.ensures c.put_line-size.ensures.after c.put_line-size.ensures.value in
     record { few = omega arith; wired = a.wired; marked = a.marked; legible = a.legible }
 
 pub returns : goal.returns
@@ -68,7 +69,7 @@ returns c =
     let good = stands_there c.args.self.now.place (rows c.args.self.now) c.args.line.now _ read may in
     let most = most_few c.args.self.now.place in
     let room = c.most_lines.ensures in
-    let a = longer c.args.self.now c.args.line.now (omega arith) good _ _ c.put_line-size.new.out _ c.put_line-size.ensures.after c.put_line-size.ensures.value in
+    let a = longer c.args.self.now c.args.line.now (omega arith) good _ _ _ c.put_line-size.new.out _ c.from-used.ensures c.put_line-size.ensures.after c.put_line-size.ensures.value in
     record {
       added =
           push_added c.args.self.now.place (rows c.args.self.now) c.args.line.now _ read may (omega (arith, row_count c.args.self.now)) ∙ ap Ok (sym a.are);
