@@ -1,5 +1,5 @@
 -- What is read of a book, step by step, and the laws of books. Assumes nothing.
-use Rattle.std.proofs.Common.{◌≡◌, ℕ, zero, suc, ◌-◌, ◌<◌, ◌≤◌, true, ◌&&◌, leb, ◌⊎◌, List, [], ◌∷◌, ◌++◌, length, Ok, Err, refl, ap, ◌∙◌, inl, inr, arith}
+use Rattle.std.proofs.Common.{◌≡◌, ℕ, zero, suc, ◌-◌, ◌<◌, ◌≤◌, true, ◌&&◌, leb, ◌⊎◌, List, [], ◌∷◌, ◌++◌, length, Ok, Err, refl, ◌∙◌, inl, inr, arith}
 use Rattle.std.proofs.lemmas.Bool.{and_parts, and_from, eqb-true, not_from_true, le-leb, lt-leb, cases_lt}
 use Rattle.narrow.specs.Rows.{all}
 use Rattle.narrow.specs.Term.{Bytes, mac_length}
@@ -9,12 +9,12 @@ use Rattle.lines.specs.declared.Fault.{Fault}
 use Rattle.lines.specs.declared.Fault.TheVariants.{Shape, Unreadable}
 use Rattle.rows.specs.Rowing.{next}
 use Rattle.rows.proofs.Exactly.{next_on, next_stop}
-use Rattle.codec.specs.Format.{fixed, two_byte, behind, both, only, named, write_several, at_end, whole}
+use Rattle.codec.specs.Format.{fixed, two_byte, behind, both, only, named, write_several}
 use Rattle.codec.specs.Laws.{Exact}
 use Rattle.codec.specs.Things.{key_kind, key_number, mac, key}
 use Rattle.codec.proofs.Combined.{fixed_exact, fixed_join, two_byte_join, behind_exact, both_exact, named_exact}
 use Rattle.codec.proofs.Steps.{behind_on, behind_other, named_on, named_stop, both_first, both_second, both_on, only_on, only_other, only_stop}
-use Rattle.codec.proofs.Wholly.{inverse, left_over}
+use Rattle.codec.proofs.Wholly.{inverse, whole_stop, whole_over, whole_on}
 use Rattle.book.specs.Keys.{KeyView, taken, apart, free_number, new_key, keys_from, book_keys}
 use Rattle.book.specs.Booking.{BookView, book_kind, book, is_book, book_of}
 use Rattle.book.specs.Laws.{BookExact, OneOfANumber, up_to_number}
@@ -35,17 +35,17 @@ book_exact =
 
 module _ (bs : Bytes) where
   pub not_read : (f : Fault) → book.read bs ≡ Err f → book_of bs ≡ Err f
-  unfolding book_of whole
-  not_read f e = next_stop _ at_end f e
+  unfolding book_of
+  not_read f e = whole_stop book bs f e
 
   module _ (b : BookView) (rest : Bytes) (e : book.read bs ≡ Ok (b, rest)) where
     pub more_left : (rest ≡ [] → ⊥) → book_of bs ≡ Err Shape
-    unfolding book_of whole
-    more_left ne = next_on _ at_end (b, rest) e ∙ left_over b rest ne
+    unfolding book_of
+    more_left ne = whole_over book bs b rest e ne
 
     pub all_read : rest ≡ [] → book_of bs ≡ Ok b
-    unfolding book_of whole
-    all_read none = next_on _ at_end (b, rest) e ∙ ap (λ (r : Bytes). at_end (b, r)) none
+    unfolding book_of
+    all_read none = whole_on book bs b rest e none
 
 pub other_kind : (bs : Bytes) → ((rest : Bytes) → bs ≡ book_kind ∷ rest → ⊥) → book.read bs ≡ Err Shape
 other_kind bs ne = behind_other _ book_kind bs ne

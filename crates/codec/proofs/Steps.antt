@@ -1,5 +1,5 @@
 -- Reading by a format, step by step. Assumes nothing.
-use Rattle.std.proofs.Common.{◌≡◌, ℕ, ◌<◌, Bool, true, false, eqb, ltb, [], ◌∷◌, ◌++◌, length, drop, Ok, Err, sym, refl, ap, ◌∙◌, arith, eq-eqb}
+use Rattle.std.proofs.Common.{◌≡◌, ℕ, ◌<◌, Bool, true, false, eqb, ltb, [], ◌∷◌, ◌++◌, length, drop, Ok, Err, Result, IsErrAnd, MatchResult, sym, refl, ap, ◌∙◌, arith, eq-eqb}
 use Rattle.std.proofs.lemmas.Bool.{cond-true, cond-false, ne_eqb, lt-ltb}
 use Rattle.narrow.specs.Term.{Bytes}
 use Rattle.narrow.specs.Can.{same_bytes}
@@ -73,6 +73,26 @@ module _ {A B : Type 0} (f : Format A) (g : Format B) (bs : Bytes) where
     pub both_second : (e : Fault) → g.read after ≡ Err e → (both f g).read bs ≡ Err e
     unfolding both
     both_second e q = next_on _ _ (a, after) one ∙ next_stop _ _ e q
+
+-- the fault that `?` hands on is the reading's
+fault_on : {X S : Type 0} {s : Result S Fault} (P : X → Type 0) (r : Result X Fault) {e : Fault} → IsErrAnd r (λ d. d ≡ e) → s ≡ Err e → MatchResult r P (λ d. s ≡ Err d)
+fault_on P (Ok x) h q = absurd h
+fault_on P (Err d) h q = q ∙ ap Err (sym h)
+
+-- a kind, and two things behind it: all are read, or `?` hands on the fault of the first that is not
+module _ {A B : Type 0} (k : ℕ) (f : Format A) (g : Format B) {bs : Bytes} where
+  pub pair_on : {r0 r1 rest : Bytes} {a : A} {b : B} → bs ≡ k ∷ r0 → f.read r0 ≡ Ok (a, r1) → g.read r1 ≡ Ok (b, rest) → (behind k (both f g)).read bs ≡ Ok ((a, b), rest)
+  pair_on kind one two = behind_on (both f g) k _ _ kind ∙ both_on f g _ _ _ one _ _ two
+
+  module _ {X : Type 0} (P : X → Type 0) (r : Result X Fault) {e : Fault} (h : IsErrAnd r (λ d. d ≡ e)) where
+    pub pair_kind : (e ≡ Shape) × ((rest : Bytes) → bs ≡ k ∷ rest → ⊥) → MatchResult r P (λ d. (behind k (both f g)).read bs ≡ Err d)
+    pair_kind other = fault_on P r h (behind_told (both f g) k bs e other)
+
+    pub pair_first : {r0 : Bytes} → bs ≡ k ∷ r0 → f.read r0 ≡ Err e → MatchResult r P (λ d. (behind k (both f g)).read bs ≡ Err d)
+    pair_first kind q = fault_on P r h (behind_on (both f g) k _ _ kind ∙ both_first f g _ e q)
+
+    pub pair_second : {r0 r1 : Bytes} {a : A} → bs ≡ k ∷ r0 → f.read r0 ≡ Ok (a, r1) → g.read r1 ≡ Err e → MatchResult r P (λ d. (behind k (both f g)).read bs ≡ Err d)
+    pair_second kind one q = fault_on P r h (behind_on (both f g) k _ _ kind ∙ both_second f g _ _ _ one e q)
 
 -- something and its MAC
 module _ {A : Type 0} (f : Format A) (bs : Bytes) where

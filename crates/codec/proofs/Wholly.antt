@@ -6,7 +6,7 @@ use Rattle.narrow.proofs.Rows.{contradiction}
 use Rattle.lines.specs.declared.Fault.{Fault}
 use Rattle.lines.specs.declared.Fault.TheVariants.{Shape, Unreadable, TooMany, Range}
 use Rattle.rows.specs.Rowing.{next}
-use Rattle.rows.proofs.Exactly.{next_value, next_on, pair_same}
+use Rattle.rows.proofs.Exactly.{next_value, next_on, next_stop, pair_same}
 use Rattle.codec.specs.Format.{Format, at_end, whole}
 use Rattle.codec.specs.Laws.{Exact, Inverse}
 
@@ -20,9 +20,24 @@ pub at_end_lem : {A : Type 0} (p : A × Bytes) (a : A) → at_end p ≡ Ok a →
 at_end_lem (b, []) a e = (cc, refl)
 at_end_lem (b, c ∷ cs) a e = contradiction (cc)
 
-pub left_over : {A : Type 0} (a : A) (more : Bytes) → (more ≡ [] → ⊥) → at_end (a, more) ≡ Err Shape
+left_over : {A : Type 0} (a : A) (more : Bytes) → (more ≡ [] → ⊥) → at_end (a, more) ≡ Err Shape
 left_over a [] ne = absurd (ne refl)
 left_over a (b ∷ bs) ne = refl
+
+-- what is told of the whole, by what was read at the front
+module _ {A : Type 0} (f : Format A) (bs : Bytes) where
+  pub whole_stop : (e : Fault) → f.read bs ≡ Err e → whole f bs ≡ Err e
+  unfolding whole
+  whole_stop e q = next_stop _ at_end e q
+
+  module _ (a : A) (rest : Bytes) (read : f.read bs ≡ Ok (a, rest)) where
+    pub whole_over : (rest ≡ [] → ⊥) → whole f bs ≡ Err Shape
+    unfolding whole
+    whole_over ne = next_on _ at_end (a, rest) read ∙ left_over a rest ne
+
+    pub whole_on : rest ≡ [] → whole f bs ≡ Ok a
+    unfolding whole
+    whole_on none = next_on _ at_end (a, rest) read ∙ ap (λ (r : Bytes). at_end (a, r)) none
 
 no_more : (xs ys : Bytes) → xs ++ ys ≡ [] → ys ≡ []
 no_more [] ys e = e
@@ -32,7 +47,7 @@ pub inverse : {A : Type 0} (f : Format A) → Exact f → Inverse f
 unfolding whole
 inverse {A} f x =
     record {
-      back = λ a h. next_on _ _ (a, []) (read a h);
+      back = λ a h. whole_on f (f.write a) a [] (read a h) refl;
       only =
           λ bs a e.
           let (p, q, r) = next_value (f.read bs) at_end a e in
@@ -40,7 +55,7 @@ inverse {A} f x =
           let (fits, same) = x.only bs p.0 p.1 q in
           (ap f.fits (sym value) ∙ fits, same ∙ ((λ i. f.write (value i) ++ none i) ∙ append-nil (f.write a)));
       cut = λ a h bs more e ne. short a h bs more e ne (f.read bs) refl;
-      over = λ a h more ne. next_on _ _ (a, more) (x.back a more h) ∙ left_over a more ne;
+      over = λ a h more ne. whole_over f (f.write a ++ more) a more (x.back a more h) ne;
     }
   where
     clash : (g : Fault) (a : A) → ◌≡◌ {A = Result (A × Bytes) Fault} (Err g) (Ok (a, [])) → ◌≡◌ {A = ℕ} 0 1

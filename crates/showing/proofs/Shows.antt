@@ -10,13 +10,13 @@ use Rattle.wishes.specs.Reading.{wish_of}
 use Rattle.lines.specs.declared.Fault.{Fault}
 use Rattle.lines.specs.declared.Fault.TheVariants.{Shape, Range}
 use Rattle.rows.proofs.Exactly.{next_value, next_on, next_stop, chosen}
-use Rattle.codec.specs.Format.{wish, counted, at_end, whole}
+use Rattle.codec.specs.Format.{wish, counted, whole}
 use Rattle.codec.specs.Laws.{Exact}
 use Rattle.codec.specs.Things.{ticket, tied}
 use Rattle.codec.proofs.Combined.{wish_exact, behind_exact, both_exact, named_exact, counted_exact}
 use Rattle.codec.proofs.EachKind.{ticket_exact, tied_exact}
 use Rattle.codec.proofs.Steps.{behind_on, behind_other, named_on, named_stop, both_first, both_second, both_on}
-use Rattle.codec.proofs.Wholly.{inverse, left_over}
+use Rattle.codec.proofs.Wholly.{inverse, whole_stop, whole_over, whole_on}
 use Rattle.tickets.specs.Making.{Ticket, Tied}
 use Rattle.showing.specs.Showing.{ShownView, shown, shown_kind, ranged, shown_of}
 use Rattle.showing.specs.Laws.{ShownExact}
@@ -56,17 +56,17 @@ shown_same x v fits e = in_range_lem x v (sym (next_on _ ranged x ((inverse show
 -- what is told, by what was read at the front
 module _ (bs : Bytes) where
   pub not_read : (f : Fault) → shown.read bs ≡ Err f → shown_of bs ≡ Err f
-  unfolding shown_of whole
-  not_read f e = next_stop _ ranged f (next_stop _ at_end f e)
+  unfolding shown_of
+  not_read f e = next_stop _ ranged f (whole_stop shown bs f e)
 
   module _ (s : ShownView) (rest : Bytes) (e : shown.read bs ≡ Ok (s, rest)) where
     pub more_left : (rest ≡ [] → ⊥) → shown_of bs ≡ Err Shape
-    unfolding shown_of whole
-    more_left ne = next_stop _ ranged Shape (next_on _ at_end (s, rest) e ∙ left_over s rest ne)
+    unfolding shown_of
+    more_left ne = next_stop _ ranged Shape (whole_over shown bs s rest e ne)
 
     ended : rest ≡ [] → shown_of bs ≡ ranged s
-    unfolding shown_of whole
-    ended none = next_on _ ranged s (next_on _ at_end (s, rest) e ∙ ap (λ (r : Bytes). at_end (s, r)) none)
+    unfolding shown_of
+    ended none = next_on _ ranged s (whole_on shown bs s rest e none)
 
     pub out_of_range : rest ≡ [] → in_range s.asked ≡ false → shown_of bs ≡ Err Range
     out_of_range none h = ended none ∙ cond-false (in_range s.asked) _ _ h
