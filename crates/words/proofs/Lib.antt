@@ -5,5 +5,4 @@ pub mod FirstWords
 pub mod Telling
 pub mod Taking
 pub mod Back
-pub mod Fields
 pub mod Wished

@@ -1,17 +1,16 @@
 use Rattle.std.proofs.Common.{◌∙◌}
-use Rattle.texts.specs.Numerals.{number_in}
-use Rattle.texts.proofs.Steps.{exits}
-use Rattle.words.proofs.Fields.{no_field, no_number, number_is}
+use Rattle.texts.proofs.Steps.{exits, so, no, last_so, last_no}
+use Rattle.words.specs.Wishes.{field_in}
 use Rattle.words.proofs.field.field.Goals as goal
 
 pub returns-in_err-word : goal.returns-in_err-word
-returns-in_err-word g c =
-    exits c.from_residual.result _ _ c.from_residual.ensures.1 ∙ no_field (number_in g.N.Unsigned.most g.N.Unsigned.value) c.args.label.now _ _ c.in_err-word.ensures
+unfolding field_in
+returns-in_err-word g c = exits _ _ _ c.from_residual.ensures.1 ∙ no _ c.in_err-word.ensures
 
 pub returns-in_err-number : goal.returns-in_err-number
-returns-in_err-number g c =
-    exits c.from_residual-in_err-number.result _ _ c.from_residual-in_err-number.ensures.1
-    ∙ no_number (number_in g.N.Unsigned.most g.N.Unsigned.value) c.args.label.now _ _ _ c.in_ok-word.ensures _ c.in_err-number.ensures
+unfolding field_in
+returns-in_err-number g c = exits _ _ _ c.from_residual-in_err-number.ensures.1 ∙ so _ c.in_ok-word.ensures (last_no _ c.in_err-number.ensures)
 
 pub returns : goal.returns
-returns g c = number_is (number_in g.N.Unsigned.most g.N.Unsigned.value) c.args.label.now _ _ _ c.in_ok-word.ensures _ c.in_ok-number.ensures
+unfolding field_in
+returns g c = so _ c.in_ok-word.ensures (last_so _ c.in_ok-number.ensures)
