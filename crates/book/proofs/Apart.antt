@@ -21,8 +21,15 @@ free_inside : (acc : List KeyView) (k : KeyView) (ks : List KeyView) (n : ℕ) �
 free_inside [] k ks n e = (free_parts k ks n e).0
 free_inside (j ∷ acc) k ks n e = free_inside acc k ks n (free_parts j (acc ++ k ∷ ks) n e).1
 
+pub eqb_flip : (a b : ℕ) → eqb a b ≡ eqb b a
+eqb_flip a b = by (eqb a b) refl
+  where
+    by : (c : Bool) → eqb a b ≡ c → eqb a b ≡ eqb b a
+    by true e = e ∙ sym (eq-eqb b a (sym (eqb-true a b e)))
+    by false e = e ∙ sym (ne_eqb b a (λ q. eqb-false a b e (sym q)))
+
 pub other_way : (m n : ℕ) → eqb m n ≡ false → eqb n m ≡ false
-other_way m n e = ne_eqb n m (λ q. eqb-false m n e (sym q))
+other_way m n e = eqb_flip n m ∙ e
 
 -- one key more, whose number is free
 pub secret_push : (ks : List KeyView) (k : KeyView) (n : ℕ) → taken ks k.0 ≡ false → secret_in (ks ++ k ∷ []) n ≡ cond (eqb k.0 n) (Some k.1) (secret_in ks n)

@@ -1,5 +1,5 @@
 -- What is read of a book, step by step, and the laws of books. Assumes nothing.
-use Rattle.std.proofs.Common.{◌≡◌, ℕ, zero, suc, ◌-◌, ◌<◌, ◌≤◌, true, ◌&&◌, leb, ◌⊎◌, List, [], ◌∷◌, ◌++◌, length, Ok, Err, refl, ◌∙◌, inl, inr, arith}
+use Rattle.std.proofs.Common.{◌≡◌, ℕ, suc, ◌-◌, ◌<◌, ◌≤◌, true, ◌&&◌, leb, ◌⊎◌, List, [], ◌∷◌, ◌++◌, length, Ok, Err, refl, ap, ◌∙◌, inl, inr, arith}
 use Rattle.std.proofs.lemmas.Bool.{and_parts, and_from, eqb-true, not_from_true, le-leb, lt-leb, cases_lt}
 use Rattle.narrow.specs.Rows.{all}
 use Rattle.narrow.specs.Term.{Bytes, mac_length}
@@ -76,11 +76,7 @@ module _ (bs r0 : Bytes) (kind : bs ≡ book_kind ∷ r0) where
 module _ (n : ℕ) (ks : List KeyView) (bs : Bytes) (left : 0 < n) where
   one_more : keys_from n ks bs ≡ next ((new_key ks).read bs) (λ k. keys_from (n - 1) (ks ++ k.0 ∷ []) k.1)
   unfolding keys_from
-  one_more = by n left
-    where
-      by : (m : ℕ) → 0 < m → keys_from m ks bs ≡ next ((new_key ks).read bs) (λ k. keys_from (m - 1) (ks ++ k.0 ∷ []) k.1)
-      by zero h = absurd (omega arith)
-      by (suc m) h = let same : suc m - 1 ≡ m = omega arith in rw same
+  one_more = let one : n ≡ suc (n - 1) = omega arith in ap (λ (k : ℕ). keys_from k ks bs) one
 
   pub keys_on : (k : KeyView) (rest : Bytes) → (new_key ks).read bs ≡ Ok (k, rest) → keys_from n ks bs ≡ keys_from (n - 1) (ks ++ k ∷ []) rest
   keys_on k rest e = one_more ∙ next_on _ _ (k, rest) e

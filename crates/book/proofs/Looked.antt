@@ -1,23 +1,17 @@
 -- Secrets looked up by number in the code's map. Assumes nothing.
 use Rattle.std.proofs.Common.{◌≡◌, ℕ, Bool, true, false, cond, eqb, List, [], ◌∷◌, is_some, Some, None, Option, sym, refl, ap, ◌∙◌}
-use Rattle.std.proofs.lemmas.Bool.{true≢false, eq-eqb, ne_eqb, eqb-true, eqb-false}
+use Rattle.std.proofs.lemmas.Bool.{true≢false}
 use Rattle.std.specs.Map.{lookup}
 use Rattle.hmac.specs.declared.Mac.{Mac}
 use Rattle.parts.specs.declared.KeyNumber.{KeyNumber}
 use Rattle.book.specs.Keys.{secret_in, taken}
 use Rattle.book.specs.Entries.{keys_view, secret_view}
+use Rattle.book.proofs.Apart.{eqb_flip}
 
 -- whether there is a secret
 pub some_view : (o : Option Mac) → is_some (secret_view o) ≡ is_some o
 some_view None = refl
 some_view (Some m) = refl
-
-eqb_flip : (a b : ℕ) → eqb a b ≡ eqb b a
-eqb_flip a b = by (eqb a b) refl
-  where
-    by : (c : Bool) → eqb a b ≡ c → eqb a b ≡ eqb b a
-    by true e = e ∙ sym (eq-eqb b a (sym (eqb-true a b e)))
-    by false e = e ∙ sym (ne_eqb b a (λ q. eqb-false a b e (sym q)))
 
 -- what a look-up by number finds
 pub looked_up : (test : KeyNumber → Bool) (n : ℕ) → ((k : KeyNumber) → test k ≡ eqb n k.number) → (es : List (KeyNumber × Mac)) → secret_view (lookup test es) ≡ secret_in (keys_view es) n

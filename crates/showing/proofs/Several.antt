@@ -1,5 +1,5 @@
 -- Several things of one format, read and written one by one. Assumes nothing.
-use Rattle.std.proofs.Common.{◌≡◌, ℕ, zero, suc, ◌-◌, ◌<◌, ◌≤◌, ltb, List, [], ◌∷◌, ◌++◌, length, take, drop, Some, None, Ok, Err, Option, Result, sym, refl, ap, ◌∙◌, IsSome, append_assoc, append-nil, arith}
+use Rattle.std.proofs.Common.{◌≡◌, ℕ, suc, ◌-◌, ◌<◌, ◌≤◌, ltb, List, [], ◌∷◌, ◌++◌, length, take, drop, Some, None, Ok, Err, Option, Result, sym, refl, ap, ◌∙◌, IsSome, append_assoc, append-nil, arith}
 use Rattle.std.proofs.lemmas.Bool.{cond-true, cond-false, lt-ltb, le-ltb}
 use Rattle.std.proofs.lemmas.List.{take_at}
 use Rattle.narrow.specs.Term.{Bytes}
@@ -25,8 +25,7 @@ after_none (Err e) = refl
 module _ {A : Type 0} (f : Bytes → Result (A × Bytes) Fault) where
   one_more : (n : ℕ) (bs : Bytes) → 0 < n → read_several f n bs ≡ next (f bs) (λ a. next (read_several f (n - 1) a.1) (λ m. Ok (a.0 ∷ m.0, m.1)))
   unfolding read_several
-  one_more zero bs h = absurd (omega arith)
-  one_more (suc n) bs h = let same : suc n - 1 ≡ n = omega arith in rw same
+  one_more n bs h = let one : n ≡ suc (n - 1) = omega arith in ap (λ (k : ℕ). read_several f k bs) one
 
   module _ (n : ℕ) (xs : List A) (bs : Bytes) (left : 0 < n) where
     pub after_on : (y : A) (rest : Bytes) → f bs ≡ Ok (y, rest) → after xs (read_several f n bs) ≡ after (xs ++ y ∷ []) (read_several f (n - 1) rest)
