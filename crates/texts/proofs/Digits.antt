@@ -44,36 +44,58 @@ module _ {N : Type 0} (value : ℕ → N) (most : ℕ) (w : List ℕ) where
   unfolding number_in
   inner e = cond-true (is_numeral w) _ _ e
 
-pub parsed : {E : Type 0} (w : List ℕ) → is_numeral w ≡ true → (r : Result ℕ E) → ParsesUnsigned 32 10 w r → result_map_both (λ n. n) (λ d. TooLarge) r ≡ number_of 4294967295 w
-parsed {E = E} w e (Ok n) h =
-    let p = parse_digits own {E = E} 32 w (Ok n) h (and_parts (all_ascii_digits w) _ e).0 in
-    ap Ok p.1 ∙ sym (inner (λ n. n) 4294967295 w e ∙ cond-true (leb (digits_value 10 w) 4294967295) _ _ (le-leb _ _ (omega (arith, p.0.1))))
-parsed {E = E} w e (Err d) h =
-    let some : 0 < length w = ltb-true 0 (length w) (and_parts (all_ascii_digits w) _ e).1 in
-    let out = parse_digits own {E = E} 32 w (Err d) h (and_parts (all_ascii_digits w) _ e).0 in
-    sym (inner (λ n. n) 4294967295 w e ∙ cond-false (leb (digits_value 10 w) 4294967295) _ _ (lt-leb _ _ (⊎_elim (λ l. absurd (out (some, omega arith))) (λ l. omega arith) (cases_lt (digits_value 10 w) 4294967296))))
+module _ (E : Type 0) (w : List ℕ) (e : is_numeral w ≡ true) where
+  pub number_read : (n : ℕ) → ParsesUnsigned {E = E} 32 10 w (Ok n) → Ok n ≡ number_of 4294967295 w
+  number_read n h =
+      let p = parse_digits own {E = E} 32 w (Ok n) h (and_parts (all_ascii_digits w) _ e).0 in
+      ap Ok p.1 ∙ sym (inner (λ n. n) 4294967295 w e ∙ cond-true (leb (digits_value 10 w) 4294967295) _ _ (le-leb _ _ (omega (arith, p.0.1))))
 
--- a number of fewer bits is a number that is small
-module _ {N E : Type 0} {value : ℕ → N} {most : ℕ} {gives : ℕ → Result N E → Type 0} (holds : Holds gives most value) (w : List ℕ) where
-  narrowed : number_in most value w ≡ and_then (number_of 4294967295 w) (λ n. cond (leb n most) (Ok (value n)) (Err TooLarge))
+  pub number_large : (d : E) → ParsesUnsigned {E = E} 32 10 w (Err d) → Err TooLarge ≡ number_of 4294967295 w
+  number_large d h =
+      let some : 0 < length w = ltb-true 0 (length w) (and_parts (all_ascii_digits w) _ e).1 in
+      let out = parse_digits own {E = E} 32 w (Err d) h (and_parts (all_ascii_digits w) _ e).0 in
+      sym (inner (λ n. n) 4294967295 w e ∙ cond-false (leb (digits_value 10 w) 4294967295) _ _ (lt-leb _ _ (⊎_elim (λ l. absurd (out (some, omega arith))) (λ l. omega arith) (cases_lt (digits_value 10 w) 4294967296))))
+
+pub parsed : {E : Type 0} (w : List ℕ) → is_numeral w ≡ true → (r : Result ℕ E) → ParsesUnsigned 32 10 w r → result_map_both (λ n. n) (λ d. TooLarge) r ≡ number_of 4294967295 w
+parsed {E = E} w e (Ok n) h = number_read E w e n h
+parsed {E = E} w e (Err d) h = number_large E w e d h
+
+-- a number up to a bound is one up to a higher bound that is small
+module _ {N : Type 0} (value : ℕ → N) (low high : ℕ) (less : low ≤ high) (w : List ℕ) where
+  pub narrowed : number_in low value w ≡ and_then (number_of high w) (λ n. cond (leb n low) (Ok (value n)) (Err TooLarge))
   unfolding number_in
-  narrowed = by (is_numeral w) (leb (digits_value 10 w) 4294967295) refl
+  narrowed = by (is_numeral w) (leb (digits_value 10 w) high) refl
     where
-      by : (a b : Bool) → leb (digits_value 10 w) 4294967295 ≡ b
-          → cond a (cond (leb (digits_value 10 w) most) (Ok (value (digits_value 10 w))) (Err TooLarge)) (Err NotANumber) ≡ and_then (cond a (cond b (Ok (digits_value 10 w)) (Err TooLarge)) (Err NotANumber)) (λ n. cond (leb n most) (Ok (value n)) (Err TooLarge))
+      by : (a b : Bool) → leb (digits_value 10 w) high ≡ b
+          → cond a (cond (leb (digits_value 10 w) low) (Ok (value (digits_value 10 w))) (Err TooLarge)) (Err NotANumber) ≡ and_then (cond a (cond b (Ok (digits_value 10 w)) (Err TooLarge)) (Err NotANumber)) (λ n. cond (leb n low) (Ok (value n)) (Err TooLarge))
       by false b e = refl
       by true true e = refl
-      by true false e = cond-false (leb (digits_value 10 w) most) _ _ (lt-leb _ _ (omega (arith, holds.wide, leb-false (digits_value 10 w) 4294967295 e)))
+      by true false e = cond-false (leb (digits_value 10 w) low) _ _ (lt-leb _ _ (omega (arith, less, leb-false (digits_value 10 w) high e)))
 
+  pub small_exit : (c : Cause) → Err c ≡ number_of high w → Err c ≡ number_in low value w
+  small_exit c e = sym (narrowed ∙ ap (λ r. and_then r (λ n. cond (leb n low) (Ok (value n)) (Err TooLarge))) (sym e))
+
+  module _ (n : ℕ) (e : Ok n ≡ number_of high w) where
+    small_is : number_in low value w ≡ cond (leb n low) (Ok (value n)) (Err TooLarge)
+    small_is = narrowed ∙ ap (λ r. and_then r (λ n. cond (leb n low) (Ok (value n)) (Err TooLarge))) (sym e)
+
+    pub small_read : (m : N) → n < low + 1 → m ≡ value n → Ok m ≡ number_in low value w
+    small_read m l i = ap Ok i ∙ sym (small_is ∙ cond-true (leb n low) _ _ (le-leb n low (omega arith)))
+
+    pub small_large : (n < low + 1 → ⊥) → Err TooLarge ≡ number_in low value w
+    small_large h = sym (small_is ∙ cond-false (leb n low) _ _ (lt-leb n low (⊎_elim (λ l. absurd (h l)) (λ l. omega arith) (cases_lt n (low + 1)))))
+
+-- a number of fewer bits than 32
+module _ {N E : Type 0} {value : ℕ → N} {most : ℕ} {gives : ℕ → Result N E → Type 0} (holds : Holds gives most value) (w : List ℕ) where
   pub not_wide : (c : Cause) → Err c ≡ number_of 4294967295 w → Err c ≡ number_in most value w
-  not_wide c e = sym (narrowed ∙ ap (λ r. and_then r (λ n. cond (leb n most) (Ok (value n)) (Err TooLarge))) (sym e))
+  not_wide = small_exit value most 4294967295 holds.wide w
 
   pub converted : (n : ℕ) → Ok n ≡ number_of 4294967295 w → (r : Result N E) → gives n r → result_map_both (λ x. x) (λ d. TooLarge) r ≡ number_in most value w
-  converted n e r g = by r (holds.each n r g) ∙ sym (narrowed ∙ ap (λ r. and_then r (λ n. cond (leb n most) (Ok (value n)) (Err TooLarge))) (sym e))
+  converted n e r g = by r (holds.each n r g)
     where
-      by : (r : Result N E) → OkIff r (n < most + 1) (value n) → result_map_both (λ x. x) (λ d. TooLarge) r ≡ cond (leb n most) (Ok (value n)) (Err TooLarge)
-      by (Ok x) h = ap Ok h.1 ∙ sym (cond-true (leb n most) _ _ (le-leb n most (omega arith)))
-      by (Err d) h = sym (cond-false (leb n most) _ _ (lt-leb n most (⊎_elim (λ l. absurd (h l)) (λ l. omega arith) (cases_lt n (most + 1)))))
+      by : (r : Result N E) → OkIff r (n < most + 1) (value n) → result_map_both (λ x. x) (λ d. TooLarge) r ≡ number_in most value w
+      by (Ok x) h = small_read value most 4294967295 holds.wide w n e x h.0 h.1
+      by (Err d) h = small_large value most 4294967295 holds.wide w n e h
 
 -- ---- zeros in front count for nothing
 
