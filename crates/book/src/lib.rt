@@ -42,6 +42,7 @@ impl Book {
     }
 
     /// The secret of the key with this number.
+    #[tactic(auto, using(crate::proofs::Looked::looked_up))]
     pub fn secret(&self, number: KeyNumber) -> Option<Mac>
         ensures { secret_view result ≡ secret_in (book_view self.now).keys number.number }
     {

@@ -85,7 +85,7 @@ module _ {N : Type 0} (value : ℕ → N) (low high : ℕ) (less : low ≤ high)
     pub small_large : (n < low + 1 → ⊥) → Err TooLarge ≡ number_in low value w
     small_large h = sym (small_is ∙ cond-false (leb n low) _ _ (lt-leb n low (⊎_elim (λ l. absurd (h l)) (λ l. omega arith) (cases_lt n (low + 1)))))
 
--- a number of fewer bits than 32
+-- a number of a type of 32 bits at most
 module _ {N E : Type 0} {value : ℕ → N} {most : ℕ} {gives : ℕ → Result N E → Type 0} (holds : Holds gives most value) (w : List ℕ) where
   pub not_wide : (c : Cause) → Err c ≡ number_of 4294967295 w → Err c ≡ number_in most value w
   not_wide = small_exit value most 4294967295 holds.wide w
